@@ -14,8 +14,8 @@ use Rattle.sys_objects.specs.declared.records.VolumeRow.{VolumeRow}
 use Rattle.sys_server.specs.Apply.{applied, with_mount}
 use Rattle.sys_server.specs.CommandLine.{asked_in}
 use Rattle.sys_server.specs.Verdict.{judged, judged_at, judged_line, mount_at, on_dismount, on_guest, on_mount, on_row, on_rows, unless_empty, visible_guest_place, visible_volume_place}
-use Rattle.sys_server.specs.declared.command.Asked.{Asked}
-use Rattle.sys_server.specs.declared.command.Asked.TheVariants as asks
+use Rattle.sys_server.specs.declared.command.NamedCommand.{NamedCommand}
+use Rattle.sys_server.specs.declared.command.NamedCommand.TheVariants as asks
 use Rattle.sys_server.specs.declared.command.Command.{Command}
 use Rattle.sys_server.specs.declared.command.Command.TheVariants.{Connect, Start, Halt, MountAt, Dismount, Show}
 use Rattle.sys_server.specs.declared.command.ServerState.{ServerState}
@@ -39,7 +39,7 @@ module _ (c : Config) (s t : ServerState) (same : SameMounts c s t) where
   dismount_same class unit None = refl
   dismount_same class unit (Some g) = row_same class g unit (slice_get c.guests g) refl
 
-  line_same : (class : AccessClass) (o : Option Asked) → judged_line c s class o ≡ judged_line c t class o
+  line_same : (class : AccessClass) (o : Option NamedCommand) → judged_line c s class o ≡ judged_line c t class o
   unfolding judged
   line_same class None = refl
   line_same class (Some (asks.Connect vm)) = refl
@@ -101,7 +101,7 @@ module _ (c : Config) where
   guest_on class None command h = tt
   guest_on class (Some g) command h = row_on class g (slice_get c.guests g) (command g) (h g)
 
-  line_on : (s : ServerState) (class : AccessClass) (o : Option Asked) → OnGuest c (judged_line c s class o)
+  line_on : (s : ServerState) (class : AccessClass) (o : Option NamedCommand) → OnGuest c (judged_line c s class o)
   unfolding judged
   line_on s class None = tt
   line_on s class (Some (asks.Connect vm)) = guest_on class (visible_guest_place c.guests class vm) Connect (λ n. tt)

@@ -19,8 +19,8 @@ use Rattle.sys_server.specs.Apply.{HasPlaces, applied, freed, taken, with_mount}
 use Rattle.sys_objects.specs.Places.{is_at}
 use Rattle.sys_server.specs.CommandLine.{asked_in}
 use Rattle.sys_server.specs.Verdict.{judged, judged_at, judged_line, mount_at, on_dismount, on_guest, on_mount, on_row, on_rows, unless_empty, verdict_of, visible_guest_place, visible_volume_place}
-use Rattle.sys_server.specs.declared.command.Asked.{Asked}
-use Rattle.sys_server.specs.declared.command.Asked.TheVariants.{Connect, Start, Halt, Mount, Dismount, Show}
+use Rattle.sys_server.specs.declared.command.NamedCommand.{NamedCommand}
+use Rattle.sys_server.specs.declared.command.NamedCommand.TheVariants.{Connect, Start, Halt, Mount, Dismount, Show}
 use Rattle.sys_server.specs.declared.command.Command.{Command}
 use Rattle.sys_server.specs.declared.command.Command.TheVariants as to_
 use Rattle.sys_server.specs.declared.command.ServerState.{ServerState}
@@ -69,7 +69,7 @@ module _ (c : Config) where
   names_dismount s class unit (Some g) = names_unless (mount_at s g unit) (on_row class (slice_get c.guests g) (to_.Dismount g unit))
       (names_row class g (to_.Dismount g unit) (λ h. h) (slice_get c.guests g) refl)
 
-  names_asked : (s : ServerState) (class : AccessClass) (asked : Option Asked) → VerdictNames c (judged_line c s class asked)
+  names_asked : (s : ServerState) (class : AccessClass) (asked : Option NamedCommand) → VerdictNames c (judged_line c s class asked)
   unfolding judged
   names_asked s class None = tt
   names_asked s class (Some (Connect vm)) = names_guest class to_.Connect (λ g h. h) (visible_guest_place c.guests class vm)
@@ -107,7 +107,7 @@ module _ (c : Config) where
     same_dismount class unit None = refl
     same_dismount class unit (Some g) = same_row class g unit (slice_get c.guests g) refl
 
-    same_line : (class : AccessClass) (asked : Option Asked) → judged_line c (seated c s running) class asked ≡ judged_line c s class asked
+    same_line : (class : AccessClass) (asked : Option NamedCommand) → judged_line c (seated c s running) class asked ≡ judged_line c s class asked
     unfolding judged
     same_line class None = refl
     same_line class (Some (Connect vm)) = refl

@@ -1,20 +1,20 @@
 -- Which object has a number.
 use Rattle.std.proofs.Common.{◌≡◌, ◌<◌, ◌≤◌, ◌+◌, ◌-◌, ℕ, zero, suc, List, [], ◌∷◌, ◌++◌, length, Some, refl, arith, ◌∙◌, ap, append_assoc, length-append, sym}
 use Rattle.std.specs.List.{slice_get}
-use Rattle.sys_flow.specs.Reach.{Object, numbered_from, audit_object, all_objects, IsTerminalAt, IsVolumeAt, IsPrinterAt, IsGuestAt}
+use Rattle.sys_flow.specs.Reach.{ObjectPlace, numbered_from, audit_object, all_objects, IsTerminalAt, IsVolumeAt, IsPrinterAt, IsGuestAt}
 use Rattle.sys_objects.specs.declared.records.Config.{Config}
 
-pub length-numbered : {A : Type 0} (f : ℕ → Object) (k : ℕ) (xs : List A) → length (numbered_from f k xs) ≡ length xs
+pub length-numbered : {A : Type 0} (f : ℕ → ObjectPlace) (k : ℕ) (xs : List A) → length (numbered_from f k xs) ≡ length xs
 length-numbered f k [] = refl
 length-numbered f k (x ∷ xs) = ap suc (length-numbered f (suc k) xs)
 
 -- within the first list, and after it
-pub within_first : {A : Type 0} (f : ℕ → Object) (k : ℕ) (xs : List A) (rest : List Object) (i : ℕ) → i < length xs → slice_get (numbered_from f k xs ++ rest) i ≡ Some (f (k + i))
+pub within_first : {A : Type 0} (f : ℕ → ObjectPlace) (k : ℕ) (xs : List A) (rest : List ObjectPlace) (i : ℕ) → i < length xs → slice_get (numbered_from f k xs ++ rest) i ≡ Some (f (k + i))
 within_first f k [] rest i h = absurd (omega arith)
 within_first f k (x ∷ xs) rest zero h = ap (λ n. Some (f n)) (omega arith)
 within_first f k (x ∷ xs) rest (suc i) h = within_first f (suc k) xs rest i (omega arith) ∙ ap (λ n. Some (f n)) (omega arith)
 
-pub after_first : {A : Type 0} (f : ℕ → Object) (k : ℕ) (xs : List A) (rest : List Object) (i : ℕ) → length xs ≤ i → slice_get (numbered_from f k xs ++ rest) i ≡ slice_get rest (i - length xs)
+pub after_first : {A : Type 0} (f : ℕ → ObjectPlace) (k : ℕ) (xs : List A) (rest : List ObjectPlace) (i : ℕ) → length xs ≤ i → slice_get (numbered_from f k xs ++ rest) i ≡ slice_get rest (i - length xs)
 after_first f k [] rest i h = ap (slice_get rest) (omega arith)
 after_first f k (x ∷ xs) rest zero h = absurd (omega arith)
 after_first f k (x ∷ xs) rest (suc i) h = after_first f (suc k) xs rest i (omega arith) ∙ ap (slice_get rest) (omega arith)

@@ -3,7 +3,7 @@ use Rattle.std.proofs.Common.{◌≡◌, ◌<◌, ◌≤◌, ◌+◌, ◌∙◌,
 use Rattle.std.specs.List.{slice_get}
 use Rattle.std.proofs.lemmas.Bool.{cases_lt}
 use Rattle.std.proofs.lemmas.Option.{slice_get_within}
-use Rattle.sys_flow.specs.Reach.{Object, IsReached, all_objects, edge_between, has_edge, leads}
+use Rattle.sys_flow.specs.Reach.{ObjectPlace, IsReached, all_objects, edge_between, has_edge, leads}
 use Rattle.sys_objects.specs.declared.records.Config.{Config}
 
 pub both_true : (x y : Bool) → (x && y) ≡ true → (x ≡ true) × (y ≡ true)
@@ -11,7 +11,7 @@ both_true true y h = (refl, h)
 both_true false y h = absurd (cc)
 
 -- an edge leads from an object to an object
-some_from : (c : Config) (x y : Option Object) → edge_between c x y ≡ true → ((o : Object) × (x ≡ Some o)) × ((o : Object) × (y ≡ Some o))
+some_from : (c : Config) (x y : Option ObjectPlace) → edge_between c x y ≡ true → ((o : ObjectPlace) × (x ≡ Some o)) × ((o : ObjectPlace) × (y ≡ Some o))
 some_from c (Some x) (Some y) h = ((x, refl), (y, refl))
 some_from c (Some x) None h = absurd (cc)
 some_from c None y h = absurd (cc)

@@ -5,7 +5,7 @@ use Rattle.std.specs.List.{flat_map}
 use Rattle.std.specs.Option.{option_map_or}
 use Rattle.vv_class.specs.Text.{class_text}
 use Rattle.sys_objects.specs.declared.records.Config.{Config}
-use Rattle.sys_flow.specs.Reach.{Object, IsTerminalAt, IsVolumeAt, IsPrinterAt, IsGuestAt, IsTheAudit, all_objects, has_edge}
+use Rattle.sys_flow.specs.Reach.{ObjectPlace, IsTerminalAt, IsVolumeAt, IsPrinterAt, IsGuestAt, IsTheAudit, all_objects, has_edge}
 use Rattle.sys_flow.specs.Report.{name_of}
 use Rattle.sys_flow.specs.Layout.{greatest, half, letters, quarter, spots_of}
 use Rattle.sys_flow.specs.Seats.{numbers, object_class_at}
@@ -21,14 +21,14 @@ pub record DrawnAs : Type 0 where
   pub fill : List ℕ
   pub ink : List ℕ
 
-abbrev pub drawn_as : Object → DrawnAs
+abbrev pub drawn_as : ObjectPlace → DrawnAs
 drawn_as (IsTerminalAt t) = record { kind = codes "terminal"; fill = codes "#cfe2f7"; ink = codes "#1f5fa8" }
 drawn_as (IsVolumeAt v) = record { kind = codes "volume"; fill = codes "#d8ecd0"; ink = codes "#3a7d2c" }
 drawn_as (IsPrinterAt p) = record { kind = codes "printer"; fill = codes "#eadcf0"; ink = codes "#000000" }
 drawn_as (IsGuestAt g) = record { kind = codes "guest"; fill = codes "#fff2c4"; ink = codes "#b07a00" }
 drawn_as IsTheAudit = record { kind = codes "audit"; fill = codes "#ffffff"; ink = codes "#000000" }
 
-abbrev pub by_number : Config → (Object → List ℕ) → ℕ → List ℕ
+abbrev pub by_number : Config → (ObjectPlace → List ℕ) → ℕ → List ℕ
 by_number c words a = option_map_or words (slice_get (all_objects c) a) []
 
 -- a text around a place

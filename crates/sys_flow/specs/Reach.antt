@@ -14,18 +14,18 @@ use Rattle.sys_objects.specs.declared.records.Terminal.{Terminal}
 use Rattle.sys_objects.specs.declared.records.VolumeRow.{VolumeRow}
 
 -- an object by its place among those of its kind
-pub data Object : Type 0 where
-  IsTerminalAt IsVolumeAt IsPrinterAt IsGuestAt : (place : ℕ) → Object
-  IsTheAudit : Object
+pub data ObjectPlace : Type 0 where
+  IsTerminalAt IsVolumeAt IsPrinterAt IsGuestAt : (place : ℕ) → ObjectPlace
+  IsTheAudit : ObjectPlace
 
-abbrev pub numbered_from : {A : Type 0} → (ℕ → Object) → ℕ → List A → List Object
+abbrev pub numbered_from : {A : Type 0} → (ℕ → ObjectPlace) → ℕ → List A → List ObjectPlace
 numbered_from object k [] = []
 numbered_from object k (x ∷ xs) = object k ∷ numbered_from object (suc k) xs
 
-abbrev pub audit_object : Option Audit → List Object
+abbrev pub audit_object : Option Audit → List ObjectPlace
 audit_object audit = option_map_or (λ a. IsTheAudit ∷ []) audit []
 
-abbrev pub all_objects : Config → List Object
+abbrev pub all_objects : Config → List ObjectPlace
 all_objects c =
     numbered_from IsTerminalAt 0 c.terminals ++ numbered_from IsVolumeAt 0 c.volumes ++ numbered_from IsPrinterAt 0 c.printers
     ++ numbered_from IsGuestAt 0 c.guests ++ audit_object c.audit
@@ -64,7 +64,7 @@ written_by c v (Some g) (Some row) = list_any (is_written_mount_of v) g.mounts |
 written_by c v _ _ = false
 
 -- an edge from one to another
-abbrev pub is_edge : Config → Object → Object → Bool
+abbrev pub is_edge : Config → ObjectPlace → ObjectPlace → Bool
 is_edge c (IsTerminalAt t) (IsGuestAt g) = meets (slice_get c.terminals t) (slice_get c.guests g)
 is_edge c (IsTerminalAt t) IsTheAudit = true
 is_edge c (IsGuestAt g) (IsTerminalAt t) = shows_on (slice_get c.guests g) (slice_get c.terminals t)
@@ -73,7 +73,7 @@ is_edge c (IsVolumeAt v) (IsGuestAt g) = is_read_by c v (slice_get c.volumes v) 
 is_edge c (IsGuestAt g) (IsVolumeAt v) = written_by c v (slice_get c.guests g) (slice_get c.volumes v)
 is_edge c _ _ = false
 
-abbrev pub edge_between : Config → Option Object → Option Object → Bool
+abbrev pub edge_between : Config → Option ObjectPlace → Option ObjectPlace → Bool
 edge_between c (Some x) (Some y) = is_edge c x y
 edge_between c _ _ = false
 

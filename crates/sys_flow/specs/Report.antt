@@ -2,12 +2,12 @@
 -- in the order of A and then of B.
 use Rattle.std.specs.Prelude.{ℕ, zero, suc, ◌≡◌, ◌==◌, ◌&&◌, not, Bool, List, [], ◌++◌, length, slice_get, codes, if◌then◌else◌}
 use Rattle.std.specs.Option.{option_map_or}
-use Rattle.sys_flow.specs.Reach.{Object, IsTerminalAt, IsVolumeAt, IsPrinterAt, IsGuestAt, IsTheAudit, all_objects}
+use Rattle.sys_flow.specs.Reach.{ObjectPlace, IsTerminalAt, IsVolumeAt, IsPrinterAt, IsGuestAt, IsTheAudit, all_objects}
 use Rattle.sys_flow.specs.Relation.{IsReach, reads}
 use Rattle.sys_objects.specs.declared.records.Config.{Config}
 
 -- an object's name; the audit has none and is shown as `*`
-abbrev pub object_name : Config → Object → List ℕ
+abbrev pub object_name : Config → ObjectPlace → List ℕ
 object_name c (IsTerminalAt t) = option_map_or (λ row. row.name) (slice_get c.terminals t) []
 object_name c (IsVolumeAt v) = option_map_or (λ row. row.name) (slice_get c.volumes v) []
 object_name c (IsPrinterAt p) = option_map_or (λ row. row.name) (slice_get c.printers p) []

@@ -6,14 +6,14 @@ use Rattle.std.specs.Option.{option_map_or}
 use Rattle.vv_class.specs.declared.class.AccessClass.{AccessClass}
 use Rattle.sys_objects.specs.declared.records.Config.{Config}
 use Rattle.sys_objects.specs.Rules.{same_class}
-use Rattle.sys_flow.specs.Reach.{Object, IsTerminalAt, IsVolumeAt, IsPrinterAt, IsGuestAt, IsTheAudit, all_objects}
+use Rattle.sys_flow.specs.Reach.{ObjectPlace, IsTerminalAt, IsVolumeAt, IsPrinterAt, IsGuestAt, IsTheAudit, all_objects}
 use Rattle.sys_flow.specs.declared.seats.Seat.{Seat}
 
 -- where there is no object
 abbrev pub no_class : AccessClass
 no_class = record { secrecy = 0; secrecy_cats = 0; integrity = 0; integrity_cats = 0 }
 
-abbrev pub object_class : Config → Object → AccessClass
+abbrev pub object_class : Config → ObjectPlace → AccessClass
 object_class c (IsTerminalAt t) = option_map_or (λ row. row.class) (slice_get c.terminals t) no_class
 object_class c (IsVolumeAt v) = option_map_or (λ row. row.class) (slice_get c.volumes v) no_class
 object_class c (IsPrinterAt p) = option_map_or (λ row. row.class) (slice_get c.printers p) no_class
@@ -29,7 +29,7 @@ abbrev pub class_rank : AccessClass → ℕ
 class_rank class = class.secrecy + count_ones class.secrecy_cats + (255 - class.integrity) + (64 - count_ones class.integrity_cats)
 
 -- among objects of one rank volumes are lowest, then guests, then terminals and printers, then the audit
-abbrev pub order_in_rank : Object → ℕ
+abbrev pub order_in_rank : ObjectPlace → ℕ
 order_in_rank (IsVolumeAt v) = 0
 order_in_rank (IsGuestAt g) = 1
 order_in_rank (IsTerminalAt t) = 2

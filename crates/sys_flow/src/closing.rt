@@ -6,7 +6,7 @@ ghost use Rattle.sys_objects.specs.Condition.{IsConfig};
 
 use crate::edges::edge;
 use crate::objects::count;
-use crate::relation::{Reach, has_bit};
+use crate::relation::{Reach, is_set};
 use arrayvec::ArrayVec;
 use sys_objects::Config;
 
@@ -47,7 +47,7 @@ fn pass(rows: &mut [u128], k: u8)
 {
     let beyond = rows[usize::from(k)];
     for row in rows.iter_mut() {
-        if has_bit(*row, k) {
+        if is_set(*row, k) {
             *row |= beyond;
         }
     }

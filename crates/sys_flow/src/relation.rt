@@ -20,7 +20,7 @@ impl Model for Reach {
     ghost view = { λ r. r.rows.items };
 }
 
-pub fn has_bit(row: u128, k: u8) -> bool
+pub fn is_set(row: u128, k: u8) -> bool
     requires { k < 128 }
     ensures { result ≡ is_set row k }
 {
@@ -41,6 +41,6 @@ impl Reach {
         requires to { b < length self.now }
         ensures { result ≡ reads self.now a b }
     {
-        has_bit(self.rows.as_slice()[usize::from(a)], b)
+        is_set(self.rows.as_slice()[usize::from(a)], b)
     }
 }

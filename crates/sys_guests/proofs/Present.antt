@@ -7,7 +7,7 @@ use Rattle.sys_guests.proofs.Lists.{get_map}
 use Rattle.sys_guests.specs.Layout.{guests_in}
 use Rattle.sys_guests.specs.Present.{HavePresent, KeepsAll, PaysAll, counted_in}
 use Rattle.sys_guests.specs.Loads.{HasFirst}
-use Rattle.sys_state.specs.FirstTouches.{none_touched, reset_as, with_reset}
+use Rattle.sys_state.specs.FirstTouches.{none_touched, touching_after_reset, with_reset}
 use Rattle.sys_state.specs.Places.{changed}
 use Rattle.sys_state.specs.SlicedTouches.{touched_as, touches_of_slice}
 use Rattle.sys_state.specs.Slices.{Slice}
@@ -66,8 +66,8 @@ pub one_reset : (ks : List Kept) (place : ℕ) (k k' : Kept) (h : Guest) (memory
 one_reset ks place k k' h memory there read is keeps =
     let within : place < length (slice_set ks place k') = omega (arith, there, set_long ks place k') in
     let here : slice_get (guests_in memory (slice_set ks place k')) place ≡ Some (guest_in memory k') = get_map (guest_in memory) (slice_set ks place k') place k' within (get_set ks place k' there) in
-    subst (λ (g : Option Guest). KeepsAll (λ ts. changed (reset_as g) ts place) ks (slice_set ks place k')) (ap Some (sym is) ∙ sym here)
-    (set_present ks place k k' (reset_as (Some h)) there read (λ t all. keeps t.present all))
+    subst (λ (g : Option Guest). KeepsAll (λ ts. changed (touching_after_reset g) ts place) ks (slice_set ks place k')) (ap Some (sym is) ∙ sym here)
+    (set_present ks place k k' (touching_after_reset (Some h)) there read (λ t all. keeps t.present all))
 
 -- its shadow page tables don't switch
 pub one_same : (ks : List Kept) (place : ℕ) (k k' : Kept) → place < length ks → k ≡ slice_index_or ks place k → k'.shadow ≡ k.shadow → KeepsAll (λ ts. ts) ks (slice_set ks place k')

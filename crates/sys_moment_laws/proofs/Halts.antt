@@ -22,7 +22,7 @@ use Rattle.vax_table.specs.declared.act.Trapped.{Trapped}
 use Rattle.vax_table.specs.declared.evaluation.Operands.{Operands}
 use Rattle.sys_moment_laws.specs.Halts.{StopsWithCodes}
 use Rattle.vm_state.specs.Contexts.{Popped, after_pops, after_push, after_reads, control_block_long, is_block_past, is_block_reserved, loaded, loads_context, on_interrupt, saved, saves_context, two_popped}
-use Rattle.vm_state.specs.Initiate.{Arrives, Attempt, Halts, Initiation, KernelStackBad, StackFaulty, Stops, Taken, after_walk, attempt, by_vector, in_its_place, initiate, initiated, is_bad_vector, longwords, new_mode, new_stack, vector_offset}
+use Rattle.vm_state.specs.Initiate.{Arrives, Attempt, Halts, Initiation, KernelStackBad, StackFaulty, StopsGuest, Taken, after_walk, attempt, by_vector, in_its_place, initiate, initiated, is_bad_vector, longwords, new_mode, new_stack, vector_offset}
 use Rattle.vm_state.specs.Interrupts.{IntervalClock, Kcall, Receiver, Software, Source, Transmitter, due, interrupt_of, source_row}
 use Rattle.vm_state.specs.Packets.{accepted}
 use Rattle.vm_state.specs.Probe.{Answers, NotValid, Probed, probe}
@@ -39,8 +39,8 @@ use Rattle.vm_state.specs.Stops as stops
 use Rattle.vm_state.specs.Translation.{is_clear, space_of, walk_of}
 use Rattle.vm_state.specs.declared.exception.Exc.{Exc}
 use Rattle.vm_state.specs.declared.exception.Exc.TheVariants as excs
-use Rattle.vm_state.specs.declared.register.Effect.{Effect as Asks}
-use Rattle.vm_state.specs.declared.register.Effect.TheVariants as effects
+use Rattle.vm_state.specs.declared.register.RegisterEffect.{RegisterEffect as Asks}
+use Rattle.vm_state.specs.declared.register.RegisterEffect.TheVariants as effects
 use Rattle.vm_state.specs.declared.register.Register.{Register as Named}
 use Rattle.vm_state.specs.declared.register.Register.TheVariants as named
 use Rattle.vm_state.specs.declared.register.ReservedOperand.{ReservedOperand}
@@ -89,7 +89,7 @@ attempt_fine g e h =
 abbrev Began : Initiation → Type 0
 Began (Taken h written) = Fine h
 Began (KernelStackBad h written) = Fine h
-Began (Stops stop) = Unit {0}
+Began (StopsGuest stop) = Unit {0}
 
 place_fine : (a : Attempt) → Arrived a → Began (in_its_place a)
 place_fine (Arrives h written) k = k
@@ -109,7 +109,7 @@ initiate_fine g e h = by_attempt g (attempt g e) h (attempt_fine g e h)
 initiated_fine : (kind : Kind) (g : Guest) (i : Initiation) → Began i → Ends (initiated_in kind g i)
 initiated_fine kind g (Taken h written) k = k
 initiated_fine kind g (KernelStackBad h written) k = k
-initiated_fine kind g (Stops stop) k = code_is stop
+initiated_fine kind g (StopsGuest stop) k = code_is stop
 
 faulted_fine : (g : Guest) (e : Exc) → Fine g → Ends (faulted g e)
 faulted_fine g e h = initiated_fine Fault g (initiate g e) (initiate_fine g e h)
@@ -144,7 +144,7 @@ trouble_did g (Test refusal) = tt
 changed_did : (i : Initiation) → Began i → Did (mode_changed i)
 changed_did (Taken h written) k = k
 changed_did (KernelStackBad h written) k = k
-changed_did (Stops stop) k = tt
+changed_did (StopsGuest stop) k = tt
 
 walked_did : (i : Initiation) (w : Walked) → Began i → Did (chm_walked i w)
 walked_did i (Homes hs) k = changed_did i k
@@ -317,7 +317,7 @@ taken_fine (Software level) s h = h
 interrupted_fine : (g : Guest) (source : Source) (i : Initiation) → Began i → Ends (interrupted g source i)
 interrupted_fine g source (Taken h written) k = taken_fine source h.state k
 interrupted_fine g source (KernelStackBad h written) k = k
-interrupted_fine g source (Stops stop) k = code_is stop
+interrupted_fine g source (StopsGuest stop) k = code_is stop
 
 waiting_fine : (g : Guest) (waits : Bool) → Fine g → Ends (unless_waiting g waits)
 waiting_fine g true h = h

@@ -27,8 +27,8 @@ use Rattle.sys_server.specs.Apply.{freed}
 use Rattle.sys_objects.specs.Places.{is_at}
 use Rattle.sys_server.specs.CommandLine.{asked_in}
 use Rattle.sys_server.specs.Verdict.{judged, judged_line, mount_at, on_dismount, on_guest, on_mount, on_row, on_rows, unless_empty, verdict_of, visible_guest_place, visible_volume_place}
-use Rattle.sys_server.specs.declared.command.Asked.{Asked}
-use Rattle.sys_server.specs.declared.command.Asked.TheVariants.{Connect, Start, Halt, Mount, Dismount, Show}
+use Rattle.sys_server.specs.declared.command.NamedCommand.{NamedCommand}
+use Rattle.sys_server.specs.declared.command.NamedCommand.TheVariants.{Connect, Start, Halt, Mount, Dismount, Show}
 use Rattle.sys_server.specs.declared.command.Command.{Command}
 use Rattle.sys_server.specs.declared.command.Command.TheVariants as to_
 use Rattle.sys_server.specs.declared.command.Verdict.{Verdict}
@@ -174,7 +174,7 @@ module _ (c : Config) where
     fits_dismount class unit (Some g) = fits_unless class (mount_at (server_of s) g unit) (on_row class (slice_get c.guests g) (to_.Dismount g unit))
         (fits_row class g (to_.Dismount g unit) (λ h. h) (slice_get c.guests g) refl)
 
-    fits_asked : (class : AccessClass) (asked : Option Asked) → VerdictFits class (judged_line c (server_of s) class asked)
+    fits_asked : (class : AccessClass) (asked : Option NamedCommand) → VerdictFits class (judged_line c (server_of s) class asked)
     unfolding judged
     fits_asked class None = tt
     fits_asked class (Some (Connect vm)) = fits_guest class to_.Connect (λ g h. h) (visible_guest_place c.guests class vm)

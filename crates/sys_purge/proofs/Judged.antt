@@ -20,8 +20,8 @@ use Rattle.sys_purge.specs.Purge.{mount_place, purge_config, rank, renumbered}
 use Rattle.sys_state.specs.Places.{place_of}
 use Rattle.sys_server.specs.CommandLine.{asked_in}
 use Rattle.sys_server.specs.Verdict.{judged, judged_at, judged_line, mount_at, on_dismount, on_guest, on_mount, on_row, on_rows, unless_empty, visible_guest_place, visible_volume_place}
-use Rattle.sys_server.specs.declared.command.Asked.{Asked}
-use Rattle.sys_server.specs.declared.command.Asked.TheVariants.{Connect, Start, Halt, Mount, Dismount, Show}
+use Rattle.sys_server.specs.declared.command.NamedCommand.{NamedCommand}
+use Rattle.sys_server.specs.declared.command.NamedCommand.TheVariants.{Connect, Start, Halt, Mount, Dismount, Show}
 use Rattle.sys_server.specs.declared.command.Command.{Command}
 use Rattle.sys_server.specs.declared.command.Command.TheVariants as to_
 use Rattle.sys_server.specs.declared.command.Rule.TheVariants.{Equal, Write}
@@ -172,7 +172,7 @@ module _ (c : Config) (to : AccessClass) where
       ∙ moved_guest class command k (place_of (is_seen class name) c.guests) (stands class e name)
       ∙ ap (λ o. moved_verdict c to (on_guest c.guests class o command)) (sym (position_is (is_seen class name) c.guests))
 
-  moved_judged : (s : ServerState) (class : AccessClass) → does_flow class to ≡ true → (asked : Asked) → judged (purge_config c to) (purged_state c to s) class asked ≡ moved_verdict c to (judged c s class asked)
+  moved_judged : (s : ServerState) (class : AccessClass) → does_flow class to ≡ true → (asked : NamedCommand) → judged (purge_config c to) (purged_state c to s) class asked ≡ moved_verdict c to (judged c s class asked)
   unfolding judged
   moved_judged s class e (Connect vm) = by_guest class e vm to_.Connect (λ g. refl)
   moved_judged s class e (Start vm) = by_guest class e vm to_.Start (λ g. refl)
@@ -191,7 +191,7 @@ module _ (c : Config) (to : AccessClass) where
       ∙ ap (λ o. moved_verdict c to (on_dismount c s class o unit)) (sym (position_is (is_seen class vm) c.guests))
   moved_judged s class e Show = refl
 
-  moved_line : (s : ServerState) (class : AccessClass) → does_flow class to ≡ true → (asked : Option Asked) → judged_line (purge_config c to) (purged_state c to s) class asked ≡ moved_verdict c to (judged_line c s class asked)
+  moved_line : (s : ServerState) (class : AccessClass) → does_flow class to ≡ true → (asked : Option NamedCommand) → judged_line (purge_config c to) (purged_state c to s) class asked ≡ moved_verdict c to (judged_line c s class asked)
   moved_line s class e None = refl
   moved_line s class e (Some asked) = moved_judged s class e asked
 

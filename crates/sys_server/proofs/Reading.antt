@@ -7,8 +7,8 @@ use Rattle.std.proofs.lemmas.List.Splits.{slice_split_at, slice_split_none}
 use Rattle.std.specs.List.{join_with_byte, list_all}
 use Rattle.vv_base.specs.Names.{is_letter, is_name_character, is_object_name, tested}
 use Rattle.sys_server.specs.CommandLine.{Asks, IsAsked, IsName, access_in, access_text, asked_in, asked_of, asked_of_guest, unit_in, unit_text, words, words_of}
-use Rattle.sys_server.specs.declared.command.Asked.{Asked}
-use Rattle.sys_server.specs.declared.command.Asked.TheVariants.{Connect, Start, Halt, Mount, Dismount, Show}
+use Rattle.sys_server.specs.declared.command.NamedCommand.{NamedCommand}
+use Rattle.sys_server.specs.declared.command.NamedCommand.TheVariants.{Connect, Start, Halt, Mount, Dismount, Show}
 
 pub parts : (a b : Bool) → (a && b) ≡ true → (a ≡ true) × (b ≡ true)
 parts true b is = (refl, is)
@@ -77,7 +77,7 @@ access_clear : (write : Bool) → is_clear (access_text write) ≡ true
 access_clear true = refl
 access_clear false = refl
 
-words_again : (asked : Asked) → IsAsked asked → words (join_with_byte 32 (words_of asked)) ≡ words_of asked
+words_again : (asked : NamedCommand) → IsAsked asked → words (join_with_byte 32 (words_of asked)) ≡ words_of asked
 words_again (Connect vm) h = words_joined (codes "CONNECT") (vm ∷ []) (refl, (name_clear vm h, tt))
 words_again (Start vm) h = words_joined (codes "START") (vm ∷ []) (refl, (name_clear vm h, tt))
 words_again (Halt vm) h = words_joined (codes "HALT") (vm ∷ []) (refl, (name_clear vm h, tt))
@@ -100,7 +100,7 @@ access_again : (write : Bool) → access_in (access_text write) ≡ Some write
 access_again true = refl
 access_again false = refl
 
-asked_again : (asked : Asked) → IsAsked asked → asked_of (words_of asked) ≡ Some asked
+asked_again : (asked : NamedCommand) → IsAsked asked → asked_of (words_of asked) ≡ Some asked
 asked_again (Connect vm) h = ap (option_and_then (asked_of_guest (codes "CONNECT"))) (name_again vm h)
 asked_again (Start vm) h = ap (option_and_then (asked_of_guest (codes "START"))) (name_again vm h)
 asked_again (Halt vm) h = ap (option_and_then (asked_of_guest (codes "HALT"))) (name_again vm h)
@@ -113,6 +113,6 @@ asked_again (Dismount vm unit) h =
     ap (option_and_then (λ g. option_map (Dismount g) (unit_in (unit_text unit)))) (name_again vm h.0) ∙ ap (option_map (Dismount vm)) (unit_again unit h.1)
 asked_again Show h = refl
 
-pub lines_are_read : (text : List ℕ) (asked : Asked) → Asks text asked → asked_in text ≡ Some asked
+pub lines_are_read : (text : List ℕ) (asked : NamedCommand) → Asks text asked → asked_in text ≡ Some asked
 unfolding asked_in
 lines_are_read text asked h = ap (λ t. asked_of (words t)) h.1 ∙ ap asked_of (words_again asked h.0) ∙ asked_again asked h.0

@@ -10,8 +10,8 @@ use Rattle.std.specs.List.{join_with_byte}
 use Rattle.vv_base.specs.Names.{is_object_name, tested}
 use Rattle.sys_server.proofs.Reading.{parts}
 use Rattle.sys_server.specs.CommandLine.{Asks, IsAsked, IsName, access_in, access_text, asked_in, asked_of, asked_of_guest, unit_in, unit_text, words, words_of}
-use Rattle.sys_server.specs.declared.command.Asked.{Asked}
-use Rattle.sys_server.specs.declared.command.Asked.TheVariants.{Dismount, Mount}
+use Rattle.sys_server.specs.declared.command.NamedCommand.{NamedCommand}
+use Rattle.sys_server.specs.declared.command.NamedCommand.TheVariants.{Dismount, Mount}
 
 both : {A : Type 0} (b : Bool) → (b ≡ true → A) → (b ≡ false → A) → A
 both true f g = f refl
@@ -21,7 +21,7 @@ same : (x y : List ℕ) → bytes_eq x y ≡ true → x ≡ y
 same x y = (bytes_eq-Decides x y).0
 
 -- what is asked has these words
-abbrev Says : List (List ℕ) → Asked → Type 0
+abbrev Says : List (List ℕ) → NamedCommand → Type 0
 Says ws asked = IsAsked asked × (ws ≡ words_of asked)
 
 digit_is : (b n : ℕ) (test : Bool) → (nat_le 48 b && nat_le b 51) ≡ test → (if test then Some (b - 48) else None) ≡ Some n → ((b ∷ []) ≡ unit_text n) × (n < 4)
@@ -76,7 +76,7 @@ of_dismount vm unit named None e = tt
 of_dismount vm unit named (Some n) e = let is = unit_is unit n e in ((named, is.1), λ i. codes "DISMOUNT" ∷ vm ∷ is.0 i ∷ [])
 
 -- of a verb that is one of these
-of_verb : (verb known : List ℕ) (more : List (List ℕ)) (o : Option Asked) → bytes_eq verb known ≡ true → IfSome o (Says (known ∷ more)) → IfSome o (Says (verb ∷ more))
+of_verb : (verb known : List ℕ) (more : List (List ℕ)) (o : Option NamedCommand) → bytes_eq verb known ≡ true → IfSome o (Says (known ∷ more)) → IfSome o (Says (verb ∷ more))
 of_verb verb known more o is said = subst (λ (v : List ℕ). IfSome o (Says (v ∷ more))) (sym (same verb known is)) said
 
 of_words : (ws : List (List ℕ)) → IfSome (asked_of ws) (Says ws)

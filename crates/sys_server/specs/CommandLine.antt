@@ -4,8 +4,8 @@
 use Rattle.std.specs.Prelude.{◌≡◌, ℕ, ◌+◌, ◌-◌, ◌<◌, List, [], ◌∷◌, codes, Bool, true, false, ◌==◌, ◌&&◌, nat_le, if◌then◌else◌, Option, None, Some, option_and_then, option_map, bytes_eq}
 use Rattle.std.specs.List.{join_with_byte, slice_split}
 use Rattle.vv_base.specs.Names.{is_object_name, tested}
-use Rattle.sys_server.specs.declared.command.Asked.{Asked}
-use Rattle.sys_server.specs.declared.command.Asked.TheVariants.{Connect, Start, Halt, Mount, Dismount, Show}
+use Rattle.sys_server.specs.declared.command.NamedCommand.{NamedCommand}
+use Rattle.sys_server.specs.declared.command.NamedCommand.TheVariants.{Connect, Start, Halt, Mount, Dismount, Show}
 
 -- a unit's digit, 0 to 3
 abbrev pub unit_text : ℕ → List ℕ
@@ -16,7 +16,7 @@ access_text true = codes "WRITE"
 access_text false = codes "READ"
 
 -- the words of each command
-abbrev pub words_of : Asked → List (List ℕ)
+abbrev pub words_of : NamedCommand → List (List ℕ)
 words_of (Connect vm) = codes "CONNECT" ∷ vm ∷ []
 words_of (Start vm) = codes "START" ∷ vm ∷ []
 words_of (Halt vm) = codes "HALT" ∷ vm ∷ []
@@ -28,7 +28,7 @@ abbrev pub IsName : List ℕ → Type 0
 IsName name = is_object_name name ≡ true
 
 -- guests and volumes have names of objects, and a guest has units 0 to 3
-abbrev pub IsAsked : Asked → Type 0
+abbrev pub IsAsked : NamedCommand → Type 0
 IsAsked (Connect vm) = IsName vm
 IsAsked (Start vm) = IsName vm
 IsAsked (Halt vm) = IsName vm
@@ -37,7 +37,7 @@ IsAsked (Dismount vm unit) = IsName vm × (unit < 4)
 IsAsked Show = Unit {0}
 
 -- the line is this command
-abbrev pub Asks : List ℕ → Asked → Type 0
+abbrev pub Asks : List ℕ → NamedCommand → Type 0
 Asks text asked = IsAsked asked × (text ≡ join_with_byte 32 (words_of asked))
 
 -- What a line asks for, as a reading that computes, word for word.
@@ -56,14 +56,14 @@ unit_in word = None
 abbrev pub access_in : List ℕ → Option Bool
 access_in word = if bytes_eq word (codes "WRITE") then Some true else if bytes_eq word (codes "READ") then Some false else None
 
-abbrev pub asked_of_guest : List ℕ → List ℕ → Option Asked
+abbrev pub asked_of_guest : List ℕ → List ℕ → Option NamedCommand
 asked_of_guest verb vm =
     if bytes_eq verb (codes "CONNECT") then Some (Connect vm) else
     if bytes_eq verb (codes "START") then Some (Start vm) else
     if bytes_eq verb (codes "HALT") then Some (Halt vm) else None
 
 -- a guest or a volume has the name of an object
-abbrev pub asked_of : List (List ℕ) → Option Asked
+abbrev pub asked_of : List (List ℕ) → Option NamedCommand
 asked_of (verb ∷ []) = if bytes_eq verb (codes "SHOW") then Some Show else None
 asked_of (verb ∷ vm ∷ []) = option_and_then (asked_of_guest verb) (tested is_object_name vm)
 asked_of (verb ∷ vm ∷ unit ∷ []) = if bytes_eq verb (codes "DISMOUNT") then option_and_then (λ g. option_map (Dismount g) (unit_in unit)) (tested is_object_name vm) else None
@@ -73,5 +73,5 @@ asked_of (verb ∷ vm ∷ unit ∷ volume ∷ access ∷ []) =
     else None
 asked_of other = None
 
-unfoldable pub asked_in : List ℕ → Option Asked
+unfoldable pub asked_in : List ℕ → Option NamedCommand
 asked_in text = asked_of (words text)

@@ -2,7 +2,7 @@
 use Rattle.std.specs.Prelude.{◌≡◌, [], codes, true, false, None, Some, refl}
 use Rattle.std.specs.List.{join_with_byte}
 use Rattle.sys_server.specs.CommandLine.{asked_in, words_of}
-use Rattle.sys_server.specs.declared.command.Asked.TheVariants.{Connect, Start, Halt, Mount, Dismount, Show}
+use Rattle.sys_server.specs.declared.command.NamedCommand.TheVariants.{Connect, Start, Halt, Mount, Dismount, Show}
 
 a_mount : join_with_byte 32 (words_of (Mount (codes "A") 3 (codes "PUB") true)) ≡ codes "MOUNT A 3 PUB WRITE"
 a_mount = refl

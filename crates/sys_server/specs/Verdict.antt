@@ -9,8 +9,8 @@ use Rattle.sys_objects.specs.declared.records.Mount.{Mount as Mounted}
 use Rattle.sys_objects.specs.declared.records.Terminal.{Terminal}
 use Rattle.sys_objects.specs.declared.records.VolumeRow.{VolumeRow}
 use Rattle.sys_objects.specs.Rules.{same_class}
-use Rattle.sys_server.specs.declared.command.Asked.{Asked}
-use Rattle.sys_server.specs.declared.command.Asked.TheVariants.{Connect, Start, Halt, Mount, Dismount, Show}
+use Rattle.sys_server.specs.declared.command.NamedCommand.{NamedCommand}
+use Rattle.sys_server.specs.declared.command.NamedCommand.TheVariants.{Connect, Start, Halt, Mount, Dismount, Show}
 use Rattle.sys_server.specs.declared.command.Command.{Command}
 use Rattle.sys_server.specs.declared.command.Command.TheVariants as to
 use Rattle.sys_server.specs.declared.command.Rule.TheVariants.{Equal, Write}
@@ -60,7 +60,7 @@ abbrev pub on_dismount : Config → ServerState → AccessClass → Option ℕ �
 on_dismount c s class None unit = NoSuchObject
 on_dismount c s class (Some g) unit = unless_empty (mount_at s g unit) (on_row class (slice_get c.guests g) (to.Dismount g unit))
 
-unfoldable pub judged : Config → ServerState → AccessClass → Asked → Verdict
+unfoldable pub judged : Config → ServerState → AccessClass → NamedCommand → Verdict
 judged c s class (Connect vm) = on_guest c.guests class (visible_guest_place c.guests class vm) to.Connect
 judged c s class (Start vm) = on_guest c.guests class (visible_guest_place c.guests class vm) to.Start
 judged c s class (Halt vm) = on_guest c.guests class (visible_guest_place c.guests class vm) to.Halt
@@ -69,7 +69,7 @@ judged c s class (Dismount vm unit) = on_dismount c s class (visible_guest_place
 judged c s class Show = Granted to.Show
 
 -- a line of another form is no command
-abbrev pub judged_line : Config → ServerState → AccessClass → Option Asked → Verdict
+abbrev pub judged_line : Config → ServerState → AccessClass → Option NamedCommand → Verdict
 judged_line c s class None = BadCommand
 judged_line c s class (Some asked) = judged c s class asked
 

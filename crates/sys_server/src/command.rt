@@ -3,7 +3,7 @@ use vv_base::Name;
 
 /// What a line asks for: objects by their names, a unit by its number, 0 to 3.
 #[derive(Drop)]
-pub enum Asked {
+pub enum NamedCommand {
     Connect(Name),
     Start(Name),
     Halt(Name),

@@ -6,7 +6,7 @@ ghost use Rattle.sys_server.specs.Replies.{reply_of};
 ghost use Rattle.sys_server.specs.Verdict.{judged, on_dismount, on_mount, on_row, on_rows, unless_empty, verdict_of, visible_guest_place, visible_volume_place};
 
 use crate::line::asked_in;
-use crate::{Asked, Command, Rule, ServerState, Verdict};
+use crate::{NamedCommand, Command, Rule, ServerState, Verdict};
 use sys_objects::{Config, GuestRow, Mount, VolumeRow, same_class};
 use vv_base::Name;
 use vv_class::{AccessClass, flows};
@@ -148,7 +148,7 @@ fn on_dismount(c: &Config, s: &ServerState, class: &AccessClass, g: Option<u8>, 
 
 /// What is answered to a command at a terminal of the class.
 #[tactic(auto, unfolding(crate::specs::Verdict::judged))]
-fn judged(c: &Config, s: &ServerState, class: &AccessClass, asked: &Asked) -> Verdict
+fn judged(c: &Config, s: &ServerState, class: &AccessClass, asked: &NamedCommand) -> Verdict
     requires few_guests { length c.now.guests ≤ 16 }
     requires few_volumes { length c.now.volumes ≤ 16 }
     requires asked { IsAsked asked.now }
@@ -157,27 +157,27 @@ fn judged(c: &Config, s: &ServerState, class: &AccessClass, asked: &Asked) -> Ve
 {
     let guests = c.guests.as_slice();
     match asked {
-        Asked::Connect(vm) => match guest_place(guests, class, vm) {
+        NamedCommand::Connect(vm) => match guest_place(guests, class, vm) {
             Some(g) => on_place(guests, class, g, Command::Connect(g)),
             None => Verdict::NoSuchObject,
         },
-        Asked::Start(vm) => match guest_place(guests, class, vm) {
+        NamedCommand::Start(vm) => match guest_place(guests, class, vm) {
             Some(g) => on_place(guests, class, g, Command::Start(g)),
             None => Verdict::NoSuchObject,
         },
-        Asked::Halt(vm) => match guest_place(guests, class, vm) {
+        NamedCommand::Halt(vm) => match guest_place(guests, class, vm) {
             Some(g) => on_place(guests, class, g, Command::Halt(g)),
             None => Verdict::NoSuchObject,
         },
-        Asked::Mount(vm, unit, volume, write) => {
+        NamedCommand::Mount(vm, unit, volume, write) => {
             let g = guest_place(guests, class, vm);
             let v = volume_place(c.volumes.as_slice(), class, volume);
             on_mount(c, class, g, *unit, v, *write)
         }
-        Asked::Dismount(vm, unit) => {
+        NamedCommand::Dismount(vm, unit) => {
             on_dismount(c, s, class, guest_place(guests, class, vm), *unit)
         }
-        Asked::Show => Verdict::Granted(Command::Show),
+        NamedCommand::Show => Verdict::Granted(Command::Show),
     }
 }
 

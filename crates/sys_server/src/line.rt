@@ -1,9 +1,9 @@
 ghost use Rattle.std.specs.Prelude.{◌≡◌, ◌==◌, ◌<◌, ◌∷◌, [], IfSome, List, ℕ, Some, bytes_eq, length, position};
 ghost use Rattle.std.specs.Option.{option_copied};
 ghost use Rattle.sys_server.specs.CommandLine.{Asks, access_in, asked_in, asked_of, rest_words, unit_in, words};
-ghost use Rattle.sys_server.specs.declared.command.Asked.{Asked as Question};
+ghost use Rattle.sys_server.specs.declared.command.NamedCommand.{NamedCommand as Question};
 
-use crate::Asked;
+use crate::NamedCommand;
 use vv_base::{find, object_name};
 
 fn is_word(word: &[u8], wanted: &[u8]) -> bool
@@ -50,7 +50,7 @@ fn asked_to_mount(
     unit: &[u8],
     volume: &[u8],
     access: &[u8],
-) -> Option<Asked>
+) -> Option<NamedCommand>
     ensures { result ≡ asked_of (verb.now ∷ vm.now ∷ unit.now ∷ volume.now ∷ access.now ∷ []) }
 {
     if !is_word(verb, b"MOUNT") {
@@ -60,10 +60,10 @@ fn asked_to_mount(
     let unit = unit_in(unit)?;
     let volume = object_name(volume)?;
     let write = access_in(access)?;
-    Some(Asked::Mount(vm, unit, volume, write))
+    Some(NamedCommand::Mount(vm, unit, volume, write))
 }
 
-fn asked_to_dismount(verb: &[u8], vm: &[u8], unit: &[u8]) -> Option<Asked>
+fn asked_to_dismount(verb: &[u8], vm: &[u8], unit: &[u8]) -> Option<NamedCommand>
     ensures { result ≡ asked_of (verb.now ∷ vm.now ∷ unit.now ∷ []) }
 {
     if !is_word(verb, b"DISMOUNT") {
@@ -71,11 +71,11 @@ fn asked_to_dismount(verb: &[u8], vm: &[u8], unit: &[u8]) -> Option<Asked>
     }
     let vm = object_name(vm)?;
     let unit = unit_in(unit)?;
-    Some(Asked::Dismount(vm, unit))
+    Some(NamedCommand::Dismount(vm, unit))
 }
 
 /// What is asked where a guest and a unit are named, and these words follow.
-fn after_unit(verb: &[u8], vm: &[u8], unit: &[u8], rest: Option<&[u8]>) -> Option<Asked>
+fn after_unit(verb: &[u8], vm: &[u8], unit: &[u8], rest: Option<&[u8]>) -> Option<NamedCommand>
     ensures { result ≡ asked_of (verb.now ∷ vm.now ∷ unit.now ∷ rest_words (option_copied rest.entry)) }
 {
     let Some(rest) = rest else {
@@ -89,23 +89,23 @@ fn after_unit(verb: &[u8], vm: &[u8], unit: &[u8], rest: Option<&[u8]>) -> Optio
     }
 }
 
-fn asked_of_guest(verb: &[u8], vm: &[u8]) -> Option<Asked>
+fn asked_of_guest(verb: &[u8], vm: &[u8]) -> Option<NamedCommand>
     ensures { result ≡ asked_of (verb.now ∷ vm.now ∷ []) }
 {
     let vm = object_name(vm)?;
     if is_word(verb, b"CONNECT") {
-        Some(Asked::Connect(vm))
+        Some(NamedCommand::Connect(vm))
     } else if is_word(verb, b"START") {
-        Some(Asked::Start(vm))
+        Some(NamedCommand::Start(vm))
     } else if is_word(verb, b"HALT") {
-        Some(Asked::Halt(vm))
+        Some(NamedCommand::Halt(vm))
     } else {
         None
     }
 }
 
 /// What is asked where a guest is named, and these words follow.
-fn after_guest(verb: &[u8], vm: &[u8], rest: Option<&[u8]>) -> Option<Asked>
+fn after_guest(verb: &[u8], vm: &[u8], rest: Option<&[u8]>) -> Option<NamedCommand>
     ensures { result ≡ asked_of (verb.now ∷ vm.now ∷ rest_words (option_copied rest.entry)) }
 {
     let Some(rest) = rest else {
@@ -115,18 +115,18 @@ fn after_guest(verb: &[u8], vm: &[u8], rest: Option<&[u8]>) -> Option<Asked>
     after_unit(verb, vm, unit, rest)
 }
 
-fn asked_alone(verb: &[u8]) -> Option<Asked>
+fn asked_alone(verb: &[u8]) -> Option<NamedCommand>
     ensures { result ≡ asked_of (verb.now ∷ []) }
 {
     if is_word(verb, b"SHOW") {
-        Some(Asked::Show)
+        Some(NamedCommand::Show)
     } else {
         None
     }
 }
 
 #[tactic(auto, unfolding(crate::specs::CommandLine::asked_in))]
-fn read(text: &[u8]) -> Option<Asked>
+fn read(text: &[u8]) -> Option<NamedCommand>
     ensures { result ≡ asked_in text.now }
 {
     let (verb, rest) = cut(text);
@@ -138,7 +138,7 @@ fn read(text: &[u8]) -> Option<Asked>
 }
 
 /// What a line asks for; `None` exactly where it is no command.
-pub fn asked_in(text: &[u8]) -> Option<Asked>
+pub fn asked_in(text: &[u8]) -> Option<NamedCommand>
     ensures value { result ≡ asked_in text.now }
     ensures exact { IfSome result (λ asked. Asks text.now asked) }
 {

@@ -45,13 +45,13 @@ abbrev pub event_starts : Config → SystemState → Event → Option ℕ
 event_starts c s e = starts_at c s (place_of (is_named e.terminal) c.terminals) e.what
 
 -- the touches after a reset, where `guests` are those after it
-abbrev pub reset_as : Option Guest → Touching → Touching
-reset_as None t = t
-reset_as (Some g) t = record t { present = touching_reset g t.present }
+abbrev pub touching_after_reset : Option Guest → Touching → Touching
+touching_after_reset None t = t
+touching_after_reset (Some g) t = record t { present = touching_reset g t.present }
 
 abbrev pub with_reset : Option ℕ → List Guest → List Touching → List Touching
 with_reset None guests ts = ts
-with_reset (Some g) guests ts = changed (reset_as (slice_get guests g)) ts g
+with_reset (Some g) guests ts = changed (touching_after_reset (slice_get guests g)) ts g
 
 abbrev pub touches_of_events : Config → ℕ → SystemState → List Event → List Touching → List Touching
 touches_of_events c i s [] ts = ts

@@ -8,7 +8,7 @@ use Rattle.sys_objects.specs.declared.records.GuestRow.{GuestRow}
 use Rattle.sys_objects.specs.declared.records.Mount.{Mount}
 use Rattle.sys_objects.specs.declared.records.Terminal.{Terminal}
 use Rattle.sys_state.specs.Events.{happened}
-use Rattle.sys_state.specs.FirstTouches.{event_starts, frames_by, reset_as, touches_of_events, touches_of_queue, touches_of_transfers, with_reset}
+use Rattle.sys_state.specs.FirstTouches.{event_starts, frames_by, touching_after_reset, touches_of_events, touches_of_queue, touches_of_transfers, with_reset}
 use Rattle.sys_state.specs.Guests.{alone, with_no_queue}
 use Rattle.sys_state.specs.Places.{changed}
 use Rattle.sys_state.specs.SlicedTouches.{touches_of_slice, touches_of_slices}
@@ -66,13 +66,13 @@ counted_set f same (t ∷ ts) (suc place) =
     let after : counted_in (t ∷ changed f ts place) ≡ t.count + counted_in (changed f ts place) = sum_by-cons (λ (y : Touching). y.count) t (changed f ts place) in
     omega (arith, rest, before, after)
 
-counted_reset : (o : Option Guest) (t : Touching) → (reset_as o t).count ≡ t.count
+counted_reset : (o : Option Guest) (t : Touching) → (touching_after_reset o t).count ≡ t.count
 counted_reset None t = refl
 counted_reset (Some g) t = refl
 
 counted_with : (o : Option ℕ) (gs : List Guest) (ts : List Touching) → counted_in (with_reset o gs ts) ≡ counted_in ts
 counted_with None gs ts = refl
-counted_with (Some g) gs ts = counted_set (reset_as (slice_get gs g)) (counted_reset (slice_get gs g)) ts g
+counted_with (Some g) gs ts = counted_set (touching_after_reset (slice_get gs g)) (counted_reset (slice_get gs g)) ts g
 
 pub counted_events : (c : Config) (i : ℕ) (s : SystemState) (es : List Event) (ts : List Touching) → counted_in (touches_of_events c i s es ts) ≡ counted_in ts
 counted_events c i s [] ts = refl

@@ -2,7 +2,7 @@
 use Rattle.std.specs.Prelude.{◌≡◌, codes, false, refl}
 use Rattle.std.specs.List.{join_with_byte}
 use Rattle.sys_server.specs.CommandLine.{words_of}
-use Rattle.sys_server.specs.declared.command.Asked.TheVariants.{Connect, Start, Halt, Mount, Dismount, Show}
+use Rattle.sys_server.specs.declared.command.NamedCommand.TheVariants.{Connect, Start, Halt, Mount, Dismount, Show}
 
 pub words_of_each :
     (join_with_byte 32 (words_of (Connect (codes "A1"))) ≡ codes "CONNECT A1")

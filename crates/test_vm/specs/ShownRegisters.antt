@@ -7,13 +7,13 @@ use Rattle.vm_state.specs.Registers.{register_row, with_request}
 use Rattle.vm_state.specs.Sensitive.{returned_to}
 use Rattle.vm_state.specs.ShownSetup.{state_u}
 use Rattle.vm_state.specs.State.{State}
-use Rattle.vm_state.specs.declared.register.Effect.{Effect}
-use Rattle.vm_state.specs.declared.register.Effect.TheVariants.{Done, Remap, Show}
-use Rattle.vm_state.specs.declared.register.Effect.TheVariants as effects
+use Rattle.vm_state.specs.declared.register.RegisterEffect.{RegisterEffect}
+use Rattle.vm_state.specs.declared.register.RegisterEffect.TheVariants.{Done, Remap, Show}
+use Rattle.vm_state.specs.declared.register.RegisterEffect.TheVariants as effects
 use Rattle.vm_state.specs.declared.register.Register.{Register}
 use Rattle.vm_state.specs.declared.register.Register.TheVariants.{Kcall, Mapen, P0br, P0lr, P1br, P1lr, Pcbb, Sbr, Slr, Tbia, Txdb}
 
-abbrev effect_of : Register → ℕ → Effect
+abbrev effect_of : Register → ℕ → RegisterEffect
 effect_of register v = (register_row register).effect v
 
 -- which registers ask for real tables anew

@@ -3,7 +3,7 @@
 use Rattle.std.specs.Prelude.{ℕ, ◌≡◌, List, [], ◌∷◌, refl, true, false, Result, Ok, Err, Some}
 use Rattle.vax_arch.specs.declared.mode.Intent.TheVariants.{Read}
 use Rattle.vax_table.specs.Interaction.{Absent, At, Test, Trouble}
-use Rattle.vax_table.specs.declared.act.Refusal.TheVariants.{Operand}
+use Rattle.vax_table.specs.declared.act.Refusal.TheVariants.{ReservedOperand}
 use Rattle.vm_slots.specs.Held.{is_same}
 use Rattle.vm_slots.specs.declared.context.Context.{Context}
 use Rattle.vm_state.specs.ShownSetup.{entry_4, guest_m, guest_u, whole_step, with_register}
@@ -79,7 +79,7 @@ pub troubles :
     -- with trouble at the last byte of those that it asked for: that one's page is lacking
     (pages_by (Err (At Absent Read 0x800)) ≡ record { found = 1 ∷ 1 ∷ []; lacking = 4 ∷ [] })
     -- refused by a test: each byte was found
-    × (pages_by (Err (Test Operand)) ≡ record { found = 1 ∷ 1 ∷ 4 ∷ []; lacking = [] })
+    × (pages_by (Err (Test ReservedOperand)) ≡ record { found = 1 ∷ 1 ∷ 4 ∷ []; lacking = [] })
     × (pages_by (Ok 7) ≡ record { found = 1 ∷ 1 ∷ 4 ∷ []; lacking = [] })
 troubles = (refl, refl, refl)
 

@@ -12,7 +12,7 @@ use Rattle.vax_table.specs.declared.decoded.Spec.{Spec}
 use Rattle.vax_table.specs.Rows.{OpcodeEntry, row_of, plain}
 use Rattle.vax_table.specs.Spelling.{AreBytes, Operands, Instruction, Spells, wait, of_row}
 use Rattle.vax_table.specs.Spelled.{spelled, spelled_all}
-use Rattle.vax_table.specs.Reading.{Answer, Whole, Short, Unknown, Reserved, decoded_at, IsAnswerFor}
+use Rattle.vax_table.specs.Reading.{Decoding, Whole, Short, Unknown, Reserved, decoded_at, IsAnswerFor}
 use Rattle.vax_table.proofs.Bytes.{AreBytes-back}
 use Rattle.vax_table.proofs.Instructions.{reading_exact}
 use Rattle.vax_table.proofs.OneSpelling.{operands_spelled}
@@ -126,7 +126,7 @@ nothing = record { program = []; read = λ number. refl; made = λ names number 
 shorter : (b : ℕ) (bs front others : List ℕ) → b ∷ bs ≡ front ++ others → 0 < length front → length others ≤ length bs
 shorter b bs front others is some = let long : length (b ∷ bs) ≡ length (front ++ others) = ap length is in omega (arith, length-append front others)
 
-again_by : (n b : ℕ) (bs : List ℕ) (a : Answer) → AreBytes (b ∷ bs) → decoded_at (b ∷ bs) ≡ a → ((image : List ℕ) → AreBytes image → length image ≤ n → Again image (disassembled_lines n image)) → length bs ≤ n → Again (b ∷ bs) (disassembled_by (disassembled_lines n) b bs a)
+again_by : (n b : ℕ) (bs : List ℕ) (a : Decoding) → AreBytes (b ∷ bs) → decoded_at (b ∷ bs) ≡ a → ((image : List ℕ) → AreBytes image → length image ≤ n → Again image (disassembled_lines n image)) → length bs ≤ n → Again (b ∷ bs) (disassembled_by (disassembled_lines n) b bs a)
 again_by n b bs (Whole d others) all is rest most =
     let t : (front : List ℕ) × (b ∷ bs ≡ front ++ others) × Spells front d = subst (IsAnswerFor (b ∷ bs)) is (reading_exact.tells (b ∷ bs) all) in
     let P : List ℕ → Type 0 = λ image. Again image (and_others (instruction_text d.opcode d.specs) (disassembled_lines n others)) in

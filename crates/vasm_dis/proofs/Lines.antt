@@ -3,7 +3,7 @@ use Rattle.std.proofs.Common.{◌≡◌, ◌==◌, true, ℕ, zero, suc, ◌+◌
 use Rattle.std.proofs.lemmas.List.{drop_at}
 use Rattle.vax_table.specs.declared.decoded.Decoded.{Decoded}
 use Rattle.vax_table.specs.Spelling.{AreBytes, Instruction, view, Spells, wait, of_row}
-use Rattle.vax_table.specs.Reading.{Answer, Whole, Short, Unknown, Reserved, decoded_at, IsAnswerFor}
+use Rattle.vax_table.specs.Reading.{Decoding, Whole, Short, Unknown, Reserved, decoded_at, IsAnswerFor}
 use Rattle.vax_table.proofs.Bytes.{AreBytes-back}
 use Rattle.vax_table.proofs.Instructions.{reading_exact}
 use Rattle.vax_decode.specs.declared.outcome.Decode.TheVariants.{NeedMore, Fault}
@@ -44,7 +44,7 @@ splits b others d all is =
     splits_by b t.0 others d all t.1 t.2
 
 -- how many lines may come doesn't matter where there are enough
-enough_by : (n m : ℕ) (b : ℕ) (bs : List ℕ) (a : Answer) → AreBytes (b ∷ bs) → decoded_at (b ∷ bs) ≡ a → length bs ≤ n → length bs ≤ m
+enough_by : (n m : ℕ) (b : ℕ) (bs : List ℕ) (a : Decoding) → AreBytes (b ∷ bs) → decoded_at (b ∷ bs) ≡ a → length bs ≤ n → length bs ≤ m
     → ((image : List ℕ) → AreBytes image → length image ≤ n → length image ≤ m → disassembled_lines n image ≡ disassembled_lines m image)
     → disassembled_by (disassembled_lines n) b bs a ≡ disassembled_by (disassembled_lines m) b bs a
 enough_by n m b bs (Whole d others) all is low high same =
@@ -64,7 +64,7 @@ enough (suc n) (suc m) [] all low high = refl
 enough (suc n) (suc m) (b ∷ bs) all low high = enough_by n m b bs (decoded_at (b ∷ bs)) all refl (omega arith) (omega arith) (λ image. enough n m image)
 
 -- the text of an image by its first line
-all_by : (b : ℕ) (bs : List ℕ) (a : Answer) → AreBytes (b ∷ bs) → decoded_at (b ∷ bs) ≡ a → disassembled_by (disassembled_lines (length bs)) b bs a ≡ disassembled_by dis_of b bs a
+all_by : (b : ℕ) (bs : List ℕ) (a : Decoding) → AreBytes (b ∷ bs) → decoded_at (b ∷ bs) ≡ a → disassembled_by (disassembled_lines (length bs)) b bs a ≡ disassembled_by dis_of b bs a
 unfolding dis_of
 all_by b bs (Whole d others) all is =
     let s : Splits (b ∷ bs) d others = splits (b ∷ bs) others d all is in
@@ -73,12 +73,12 @@ all_by b bs Short all is = refl
 all_by b bs Unknown all is = refl
 all_by b bs Reserved all is = refl
 
-pub first_line : (b : ℕ) (bs : List ℕ) (a : Answer) → AreBytes (b ∷ bs) → decoded_at (b ∷ bs) ≡ a → dis_of (b ∷ bs) ≡ disassembled_by dis_of b bs a
+pub first_line : (b : ℕ) (bs : List ℕ) (a : Decoding) → AreBytes (b ∷ bs) → decoded_at (b ∷ bs) ≡ a → dis_of (b ∷ bs) ≡ disassembled_by dis_of b bs a
 unfolding dis_of
 first_line b bs a all is = ap (disassembled_by (disassembled_lines (length bs)) b bs) is ∙ all_by b bs a all is
 
 -- the same where it is an instruction's line
-done_by : (b : ℕ) (bs : List ℕ) (d : Decoded) (a : Answer) → AreBytes (b ∷ bs) → decoded_at (b ∷ bs) ≡ a → IsWhole d a
+done_by : (b : ℕ) (bs : List ℕ) (d : Decoded) (a : Decoding) → AreBytes (b ∷ bs) → decoded_at (b ∷ bs) ≡ a → IsWhole d a
     → (0 < d.length) × (d.length ≤ length (b ∷ bs)) × (dis_of (b ∷ bs) ≡ and_others (instruction_text d.opcode d.specs.items) (dis_of (drop d.length (b ∷ bs))))
 done_by b bs d (Whole e others) all is w =
     let same : Whole e others ≡ Whole (view d) others = ap (λ x. Whole x others) w in
@@ -99,7 +99,7 @@ pub record IsFront (image line : List ℕ) (size : ℕ) : Type 0 where
   pub most : size ≤ length image
   pub rest : dis_of image ≡ and_others line (dis_of (drop size image))
 
-front_done_by : (b : ℕ) (d : Decoded) (a : Answer) → IsWhole d a → instruction_text d.opcode d.specs.items ≡ front_by b a
+front_done_by : (b : ℕ) (d : Decoded) (a : Decoding) → IsWhole d a → instruction_text d.opcode d.specs.items ≡ front_by b a
 front_done_by b d (Whole e others) w = ap (λ (i : Instruction). instruction_text i.opcode i.specs) (sym w)
 front_done_by b d Short w = absurd w
 front_done_by b d Unknown w = absurd w
@@ -112,13 +112,13 @@ front_done (b ∷ bs) d all some w =
     let r = done_by b bs d (decoded_at (b ∷ bs)) all refl w in
     record { text = front_done_by b d (decoded_at (b ∷ bs)) w; some = r.0; most = r.1; rest = r.2 }
 
-byte_by : (b : ℕ) (bs : List ℕ) (a : Answer) → AreBytes (b ∷ bs) → decoded_at (b ∷ bs) ≡ a → IsNone a → dis_of (b ∷ bs) ≡ and_others (byte_text b) (dis_of bs)
+byte_by : (b : ℕ) (bs : List ℕ) (a : Decoding) → AreBytes (b ∷ bs) → decoded_at (b ∷ bs) ≡ a → IsNone a → dis_of (b ∷ bs) ≡ and_others (byte_text b) (dis_of bs)
 byte_by b bs (Whole d others) all is none = absurd none
 byte_by b bs Short all is none = first_line b bs Short all is
 byte_by b bs Unknown all is none = first_line b bs Unknown all is
 byte_by b bs Reserved all is none = first_line b bs Reserved all is
 
-front_none_by : (b : ℕ) (a : Answer) → IsNone a → byte_text b ≡ front_by b a
+front_none_by : (b : ℕ) (a : Decoding) → IsNone a → byte_text b ≡ front_by b a
 front_none_by b (Whole d others) none = absurd none
 front_none_by b Short none = refl
 front_none_by b Unknown none = refl
@@ -145,9 +145,9 @@ all_shown text [] whole none is = sym (append-nil text) ∙ is
 all_shown text (b ∷ bs) whole none is = grind arith
 
 -- who answers otherwise finds no instruction
-pub none_needed : (a : Answer) → IsAnswer NeedMore a → IsNone a
+pub none_needed : (a : Decoding) → IsAnswer NeedMore a → IsNone a
 none_needed a is = subst IsNone (sym is) tt
 
-pub none_faulted : (f : DecodeFault) (a : Answer) → IsAnswer (Fault f) a → IsNone a
+pub none_faulted : (f : DecodeFault) (a : Decoding) → IsAnswer (Fault f) a → IsNone a
 none_faulted Opcode a is = subst IsNone (sym is) tt
 none_faulted Addressing a is = subst IsNone (sym is) tt

@@ -18,12 +18,12 @@ use Rattle.vax_table.specs.declared.forms.Form.{Form}
 use Rattle.vax_table.specs.declared.meaning.Operation.{Operation}
 use Rattle.vax_table.specs.declared.meaning.Operation.TheVariants as does
 use Rattle.vax_table.specs.Claims.{Holds, claims}
-use Rattle.vax_table.specs.Fetch.{by_answer, decided, fetched}
+use Rattle.vax_table.specs.Fetch.{by_decoding, decided, fetched}
 use Rattle.vax_table.specs.Operand.{address_of, address_operand, base_address, bits_operand, branch_operand, by_access, read_operand}
 use Rattle.vax_table.specs.AllOperands.{past_own_bytes, forms_in, operand_length, operand_of, operands_from, operands_of, trap_forms, trap_operands, no_operands, with_operand}
 use Rattle.vax_table.specs.Operations.{operation_of}
 use Rattle.vax_table.specs.Plan.{plan_of}
-use Rattle.vax_table.specs.Reading.{Answer, Whole, Short, Unknown, Reserved, decoded_at}
+use Rattle.vax_table.specs.Reading.{Decoding, Whole, Short, Unknown, Reserved, decoded_at}
 use Rattle.vax_table.specs.Rows.{row_of}
 use Rattle.vax_table.specs.Interaction.{Interaction, Space, outcome, ◌>>=◌}
 use Rattle.vax_table.specs.Spelling.{Instruction}
@@ -175,7 +175,7 @@ acted_holds : (is_kernel : Bool) (psl : ℕ) (d : Instruction) (r : List ℕ) �
 unfolding acted
 acted_holds is_kernel psl d r = by_operation is_kernel psl (operation_of d.opcode) d r (silent d.opcode)
 
-answer_holds : (more : List ℕ → Interaction Instruction) (at : ℕ) (bytes : List ℕ) (a : Answer) → ((bs : List ℕ) → Holds Nothing [] (more bs)) → Holds Nothing [] (by_answer more at bytes a)
+answer_holds : (more : List ℕ → Interaction Instruction) (at : ℕ) (bytes : List ℕ) (a : Decoding) → ((bs : List ℕ) → Holds Nothing [] (more bs)) → Holds Nothing [] (by_decoding more at bytes a)
 answer_holds more at bytes (Whole d rest) h = refl
 answer_holds more at bytes Short h = λ b. h (bytes ++ b ∷ [])
 answer_holds more at bytes Unknown h = tt

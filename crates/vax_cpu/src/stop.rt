@@ -35,7 +35,7 @@ fn exit_of(trouble: Trouble) -> Exit
     match trouble {
         Trouble::NotValid { va, write } => Exit::NotValid { va, write },
         Trouble::Denied { va, write } => Exit::Denied { va, write },
-        Trouble::Operand => Exit::Refused(Refusal::Operand),
+        Trouble::ReservedOperand => Exit::Refused(Refusal::ReservedOperand),
     }
 }
 

@@ -4,7 +4,7 @@ use Rattle.vax_table.specs.declared.forms.Form.{Form}
 use Rattle.vax_table.specs.declared.decoded.Spec.{Spec}
 use Rattle.vax_table.specs.declared.decoded.Decoded.{Decoded}
 use Rattle.vax_table.specs.Spelling.{AreBytes, Operands, view, Spells}
-use Rattle.vax_table.specs.Reading.{operands_at, Got, Answer, Whole, Short, Unknown, Reserved, decoded_at, IsAnswerFor}
+use Rattle.vax_table.specs.Reading.{operands_at, Got, Decoding, Whole, Short, Unknown, Reserved, decoded_at, IsAnswerFor}
 use Rattle.vax_table.proofs.Operands.{ReadsAll, operands_read}
 use Rattle.vax_table.proofs.Lengths.{operands_nine}
 use Rattle.vax_table.proofs.Instructions.{reading_exact}
@@ -21,7 +21,7 @@ left_over fs bs ss rest h e =
     let short : length m.0 ≤ 9 * length fs = operands_nine fs m.0 ss m.2 in
     (omega (arith, length-append {A = ℕ}), omega (arith, length-append {A = ℕ}))
 
-done_tells : (b : List ℕ) (d : Decoded) (a : Answer) → IsAnswerFor b a → IsWhole d a → (front : List ℕ) × (rest : List ℕ) × (b ≡ front ++ rest) × Spells front (view d)
+done_tells : (b : List ℕ) (d : Decoded) (a : Decoding) → IsAnswerFor b a → IsWhole d a → (front : List ℕ) × (rest : List ℕ) × (b ≡ front ++ rest) × Spells front (view d)
 done_tells b d (Whole e rest) t w = (t.0, rest, t.1, subst (Spells t.0) w t.2)
 done_tells b d Short t w = absurd w
 done_tells b d Unknown t w = absurd w

@@ -2,7 +2,7 @@
 use Rattle.std.specs.Prelude.{◌≡◌, ℕ, ◌<◌, List, ◌++◌, length}
 use Rattle.vax_table.specs.declared.decoded.Decoded.{Decoded}
 use Rattle.vax_table.specs.Spelling.{Instruction, view, Spells, SpellsNone, HasOpcode}
-use Rattle.vax_table.specs.Reading.{Answer, Whole, Short, Unknown, Reserved}
+use Rattle.vax_table.specs.Reading.{Decoding, Whole, Short, Unknown, Reserved}
 use Rattle.vax_decode.specs.declared.outcome.Decode.{Decode}
 use Rattle.vax_decode.specs.declared.outcome.Decode.TheVariants.{Done, NeedMore, Fault}
 use Rattle.vax_decode.specs.declared.outcome.DecodeFault.TheVariants.{Opcode, Addressing}
@@ -15,14 +15,14 @@ Decodes b NeedMore = (tail : List ℕ) × (d : Instruction) × (0 < length tail)
 Decodes b (Fault Opcode) = SpellsNone b × (HasOpcode b → ⊥)
 Decodes b (Fault Addressing) = SpellsNone b × HasOpcode b
 
-abbrev pub IsWhole : Decoded → Answer → Type 0
+abbrev pub IsWhole : Decoded → Decoding → Type 0
 IsWhole d (Whole e rest) = e ≡ view d
 IsWhole d Short = ⊥
 IsWhole d Unknown = ⊥
 IsWhole d Reserved = ⊥
 
 -- the decoder answers what reading the list of bytes does
-abbrev pub IsAnswer : Decode → Answer → Type 0
+abbrev pub IsAnswer : Decode → Decoding → Type 0
 IsAnswer (Done d) a = IsWhole d a
 IsAnswer NeedMore a = a ≡ Short
 IsAnswer (Fault Opcode) a = a ≡ Unknown

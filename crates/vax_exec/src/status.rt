@@ -18,7 +18,7 @@ pub fn set_status(o: &Values, psw: u8, plan: &mut Plan) -> Result<(), Trouble>
             begin(plan, psw | mask as u8);
             Ok(())
         }
-        _ => Err(Trouble::Operand),
+        _ => Err(Trouble::ReservedOperand),
     }
 }
 
@@ -32,6 +32,6 @@ pub fn clear_status(o: &Values, psw: u8, plan: &mut Plan) -> Result<(), Trouble>
             begin(plan, psw & (0xFF - mask as u8));
             Ok(())
         }
-        _ => Err(Trouble::Operand),
+        _ => Err(Trouble::ReservedOperand),
     }
 }

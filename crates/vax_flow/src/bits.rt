@@ -88,7 +88,7 @@ pub fn branch_on_bit<S: Space>(
     match o.dests[1] {
         Dest::Nowhere => {}
         Dest::Register(_) if position >= 32 => {
-            return Err(Trouble::Operand);
+            return Err(Trouble::ReservedOperand);
         }
         Dest::Register(n) => {
             let value = plan.r.get(usize::from(n)).copied().unwrap_or(0);

@@ -90,7 +90,7 @@ fn read_mask<S: Space>(space: &S, procedure: u32) -> Result<u32, Trouble>
     if mask / 0x1000 % 4 == 0 {
         Ok(mask)
     } else {
-        Err(Trouble::Operand)
+        Err(Trouble::ReservedOperand)
     }
 }
 
@@ -163,7 +163,7 @@ pub fn ret<S: Space>(space: &S, o: &Values, psw: u8, plan: &mut Plan) -> Result<
     space.read(fp, Width::Long)?;
     let word = space.read(fp.wrapping_add(4), Width::Long)? as u32;
     if word / 0x100 % 0x100 != 0 {
-        return Err(Trouble::Operand);
+        return Err(Trouble::ReservedOperand);
     }
     let mut place = Place {
         at: fp.wrapping_add(8),

@@ -154,7 +154,7 @@ put_alike r n (Register m) Quad v e narrow at h = absurd (narrow refl)
 
 -- the number of the operand that gets the result
 abbrev target_number : Target → ℕ
-target_number targets.Codes = 0
+target_number targets.CodesOnly = 0
 target_number targets.First = 0
 target_number targets.Second = 1
 target_number targets.Third = 2
@@ -168,7 +168,7 @@ number_of operation = 0
 computed_alike : (r : List ℕ) (xs : List Operand) (op : AluOp) (w : Width) (inputs : Inputs) (target : Target) (o : Operands) (psw : ℕ) → w ≢ Quad → AreAlike r o.r →
     IsAt (register_at (target_number target) xs) (dest_of o (target_number target)) → AreAlikeBut (target_register target xs) r (computed op w inputs target o psw).r
 unfolding computed
-computed_alike r xs op w inputs targets.Codes o psw narrow h at = λ i low ne. h i low
+computed_alike r xs op w inputs targets.CodesOnly o psw narrow h at = λ i low ne. h i low
 computed_alike r xs op w inputs targets.First o psw narrow h at = put_alike r _ (dest_of o 0) w _ _ narrow at h
 computed_alike r xs op w inputs targets.Second o psw narrow h at = put_alike r _ (dest_of o 1) w _ _ narrow at h
 computed_alike r xs op w inputs targets.Third o psw narrow h at = put_alike r _ (dest_of o 2) w _ _ narrow at h
@@ -199,7 +199,7 @@ tested_alike : (r : List ℕ) (n : ℕ) (on : Bool) (becomes : Option Bool) (des
 tested_alike r n on None dest w k v to e narrow at h = went_alike r n _ to e (λ i low ne. h i low)
 tested_alike r n on (Some b) dest w k v to e narrow at h = went_alike r n _ to (put dest w (with_bit b k v) e) (put_alike r n dest w (with_bit b k v) e narrow at h)
 
-unless_refused : (r : List ℕ) (n : ℕ) (cs : List ℕ) (b : Bool) (e : Effect) → AreAlikeBut n r e.r → Holds (IsAlikeBut n r) cs (if b then Done e else Refuse refusals.Operand)
+unless_refused : (r : List ℕ) (n : ℕ) (cs : List ℕ) (b : Bool) (e : Effect) → AreAlikeBut n r e.r → Holds (IsAlikeBut n r) cs (if b then Done e else Refuse refusals.ReservedOperand)
 unless_refused r n cs true e h = h
 unless_refused r n cs false e h = tt
 

@@ -11,13 +11,13 @@ use Rattle.vax_hw.specs.declared.world.Exit.TheVariants.{Refused}
 use Rattle.vax_kept.specs.Fetched.{exits, refusal_of}
 use Rattle.vax_table.specs.declared.act.Refusal.{Refusal}
 use Rattle.vax_table.specs.declared.act.Refusal.TheVariants as refusals
-use Rattle.vax_table.specs.Fetch.{by_answer, decided}
-use Rattle.vax_table.specs.Reading.{Answer, Whole, Short, Unknown, Reserved, decoded_at}
+use Rattle.vax_table.specs.Fetch.{by_decoding, decided}
+use Rattle.vax_table.specs.Reading.{Decoding, Whole, Short, Unknown, Reserved, decoded_at}
 use Rattle.vax_table.specs.Interaction.{Interaction, Space, Done, Refuse, Trouble, outcome, bind_result, number_at, with_byte}
 use Rattle.vax_table.specs.Spelling.{Instruction, view}
 use Rattle.vax_table.specs.declared.decoded.Decoded.{Decoded}
 
-whole_by : (more : List ℕ → Interaction Instruction) (at : ℕ) (bytes : List ℕ) (d : Decoded) (a : Answer) → IsWhole d a → by_answer more at bytes a ≡ Done (view d)
+whole_by : (more : List ℕ → Interaction Instruction) (at : ℕ) (bytes : List ℕ) (d : Decoded) (a : Decoding) → IsWhole d a → by_decoding more at bytes a ≡ Done (view d)
 whole_by more at bytes d (Whole e rest) h = ap Done h
 whole_by more at bytes d Short h = absurd h
 whole_by more at bytes d Unknown h = absurd h
@@ -28,12 +28,12 @@ pub whole : (s : Space) (n at : ℕ) (bytes told : List ℕ) (r : Result Instruc
 unfolding decided
 whole s zero at bytes told r d some same h e = absurd (omega arith)
 whole s (suc n) at bytes told r d some same h e =
-    let here : by_answer (decided n at) at bytes (decoded_at bytes) ≡ Done (view d) = ap (λ x. by_answer (decided n at) at bytes (decoded_at x)) (sym same) ∙ whole_by (decided n at) at bytes d (decoded_at told) h in
+    let here : by_decoding (decided n at) at bytes (decoded_at bytes) ≡ Done (view d) = ap (λ x. by_decoding (decided n at) at bytes (decoded_at x)) (sym same) ∙ whole_by (decided n at) at bytes d (decoded_at told) h in
     ap (λ x. exits (outcome s x)) (sym here) ∙ ap exits e
 
-fault_by : (more : List ℕ → Interaction Instruction) (at : ℕ) (bytes : List ℕ) (f : DecodeFault) (a : Answer) → IsAnswer (Fault f) a → by_answer more at bytes a ≡ Refuse (refusal_of f)
-fault_by more at bytes Opcode a h = ap (by_answer more at bytes) h
-fault_by more at bytes Addressing a h = ap (by_answer more at bytes) h
+fault_by : (more : List ℕ → Interaction Instruction) (at : ℕ) (bytes : List ℕ) (f : DecodeFault) (a : Decoding) → IsAnswer (Fault f) a → by_decoding more at bytes a ≡ Refuse (refusal_of f)
+fault_by more at bytes Opcode a h = ap (by_decoding more at bytes) h
+fault_by more at bytes Addressing a h = ap (by_decoding more at bytes) h
 
 refused : Refusal → Result Instruction Exit
 refused k = Err (Refused k)
@@ -43,7 +43,7 @@ pub fault : (s : Space) (n at : ℕ) (refusal : Refusal) (bytes told : List ℕ)
 unfolding decided refused
 fault s zero at refusal bytes told r f some same h first e = absurd (omega arith)
 fault s (suc n) at refusal bytes told r f some same h first e =
-    let here : by_answer (decided n at) at bytes (decoded_at bytes) ≡ Refuse (refusal_of f) = ap (λ x. by_answer (decided n at) at bytes (decoded_at x)) (sym same) ∙ fault_by (decided n at) at bytes f (decoded_at told) h in
+    let here : by_decoding (decided n at) at bytes (decoded_at bytes) ≡ Refuse (refusal_of f) = ap (λ x. by_decoding (decided n at) at bytes (decoded_at x)) (sym same) ∙ fault_by (decided n at) at bytes f (decoded_at told) h in
     ap refused first ∙ ap (λ x. exits (outcome s x)) (sym here) ∙ ap exits e
 
 -- and so do looks that are used up
@@ -62,7 +62,7 @@ wrapped s place at e = let same : place % 2 ^ 32 ≡ at % 2 ^ 32 = ap (λ x. x %
 short : (s : Space) (n at place : ℕ) (bytes told : List ℕ) → told ≡ bytes → decoded_at told ≡ Short → place ≡ (at + length bytes) % 2 ^ 32 → outcome s (decided (suc n) at bytes) ≡ bind_result (number_at s Read 1 place) (λ b. outcome s (decided n at (bytes ++ b ∷ [])))
 unfolding decided
 short s n at place bytes told same h e =
-    ap (λ x. outcome s (by_answer (decided n at) at bytes x)) (ap decoded_at (sym same) ∙ h) ∙ ap (λ x. bind_result x (λ b. outcome s (decided n at (bytes ++ b ∷ [])))) (sym (wrapped s place (at + length bytes) e))
+    ap (λ x. outcome s (by_decoding (decided n at) at bytes x)) (ap decoded_at (sym same) ∙ h) ∙ ap (λ x. bind_result x (λ b. outcome s (decided n at (bytes ++ b ∷ [])))) (sym (wrapped s place (at + length bytes) e))
 
 goes_on : (b : ℕ) (x : Result ℕ Trouble) (f : ℕ → Result Instruction Trouble) → Ok b ≡ exits x → bind_result x f ≡ f b
 goes_on b (Ok c) f h = let same : c ≡ b = cc in ap f same

@@ -7,8 +7,8 @@ use Rattle.vax_arch.specs.declared.mode.Intent.TheVariants.{Read}
 use Rattle.vax_decode.proofs.RoundTrip.{some_left}
 use Rattle.vax_hw.specs.RealTables.{byte_by}
 use Rattle.vax_hw.specs.declared.world.World.{World}
-use Rattle.vax_table.specs.Fetch.{by_answer, decided, fetched}
-use Rattle.vax_table.specs.Reading.{Answer, Whole, Short, Unknown, Reserved, IsAnswerFor, decoded_at}
+use Rattle.vax_table.specs.Fetch.{by_decoding, decided, fetched}
+use Rattle.vax_table.specs.Reading.{Decoding, Whole, Short, Unknown, Reserved, IsAnswerFor, decoded_at}
 use Rattle.vax_table.specs.Interaction.{Cause, Space, Trouble, bind_result, number_at, outcome, with_byte}
 use Rattle.vax_table.specs.Spelling.{AreBytes, Instruction, IsWellFormed, Spells}
 use Rattle.vax_table.specs.Spelling as spells
@@ -19,7 +19,7 @@ use Rattle.vax_table.proofs.OneSpelling.{rest_same}
 use Rattle.vax_paged.specs.Paged.{paged, placed}
 use Rattle.vax_paged.proofs.InPage.{next_place}
 
-wants_by : (a : Answer) (b tail : List ℕ) (d : Instruction) → 0 < length tail → Spells (b ++ tail) d → IsAnswerFor b a → a ≡ Short
+wants_by : (a : Decoding) (b tail : List ℕ) (d : Instruction) → 0 < length tail → Spells (b ++ tail) d → IsAnswerFor b a → a ≡ Short
 wants_by (Whole e rest) b tail d some p t =
     let same = rest_same t.0 (b ++ tail) (rest ++ tail) [] e d t.2 p (sym (append-nil (b ++ tail) ∙ (ap (λ (ys : List ℕ). ys ++ tail) t.1 ∙ append_assoc t.0 rest tail))) in
     absurd (some_left rest tail some same.1)
@@ -48,11 +48,11 @@ goes_on s at zero rest done d few a are p h = absurd (omega arith)
 goes_on s at (suc n) [] done d few a are p h =
     let all : Spells done d = subst (λ (xs : List ℕ). Spells xs d) (append-nil done) p in
     let whole : decoded_at done ≡ Whole d [] = ap decoded_at (sym (append-nil done)) ∙ spelled_again done [] d all in
-    ap (λ (x : Answer). outcome s (by_answer (decided n at) at done x)) whole
+    ap (λ (x : Decoding). outcome s (by_decoding (decided n at) at done x)) whole
 goes_on s at (suc n) (b ∷ rest) done d few a are p h =
     let here : at + (length done + 0) ≡ at + length done = omega arith in
     let more : List ℕ → Result Instruction Trouble = λ xs. outcome s (decided n at xs) in
-    ap (λ (x : Answer). outcome s (by_answer (decided n at) at done x)) (wants done (b ∷ rest) d a (omega arith) p)
+    ap (λ (x : Decoding). outcome s (by_decoding (decided n at) at done x)) (wants done (b ∷ rest) d a (omega arith) p)
     ∙ ap (λ (r : Result ℕ Trouble). bind_result r (λ c. more (done ++ c ∷ [])))
     (one_read s (at + length done) b (subst (λ (k : ℕ). s Read (k % 2 ^ 32) ≡ Ok b) here (h 0 (omega arith))))
     ∙ goes_on s at n rest (done ++ b ∷ []) d (omega arith) (one_more done b a are.0) are.1
@@ -96,7 +96,7 @@ taken_small (suc n) (b ∷ bytes) are (suc i) = taken_small n bytes (λ k. are (
 -- the spelling that reading found
 spelling_of : (front : List ℕ) (d : Instruction) → AreBytes front → decoded_at front ≡ Whole d [] → Spells front d
 spelling_of front d are e =
-    let t : IsAnswerFor front (Whole d []) = subst (λ (a : Answer). IsAnswerFor front a) e (reading_exact.tells front are) in
+    let t : IsAnswerFor front (Whole d []) = subst (λ (a : Decoding). IsAnswerFor front a) e (reading_exact.tells front are) in
     subst (λ (xs : List ℕ). Spells xs d) (sym (t.1 ∙ append-nil t.0)) t.2
 
 -- kept bytes that a space has at an address spell the instruction there

@@ -51,7 +51,7 @@ register_at zero (x ∷ xs) = operand_register x.kind x.spec.reg
 register_at (suc n) (x ∷ xs) = register_at n xs
 
 abbrev pub target_register : Target → List Operand → ℕ
-target_register targets.Codes xs = 0
+target_register targets.CodesOnly xs = 0
 target_register targets.First xs = register_at 0 xs
 target_register targets.Second xs = register_at 1 xs
 target_register targets.Third xs = register_at 2 xs

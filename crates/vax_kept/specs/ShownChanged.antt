@@ -5,7 +5,7 @@ use Rattle.vax_table.specs.declared.answer.AluOp.TheVariants.{Add, Move}
 use Rattle.vax_table.specs.declared.meaning.Condition.TheVariants.{NotEqual}
 use Rattle.vax_table.specs.declared.meaning.Inputs.TheVariants.{Both, First}
 use Rattle.vax_table.specs.declared.meaning.Operation.TheVariants.{Branch, BranchOnBit, BranchOnLowBit, Compute, Nothing}
-use Rattle.vax_table.specs.declared.meaning.Target.TheVariants.{Codes, Second}
+use Rattle.vax_table.specs.declared.meaning.Target.TheVariants.{CodesOnly, Second}
 use Rattle.vax_operand.specs.declared.kind.Base.TheVariants.{Deferred, Decrement, Increment, IncrementDeferred, Absolute, Displaced, DisplacedDeferred}
 use Rattle.vax_operand.specs.declared.kind.Kind.TheVariants.{Constant, ReadRegister, ModifyRegister, WriteRegister, BitsRegister, Read, Modify, Write, Bits}
 use Rattle.vax_kept.specs.Changed.{changed_register, is_still, leaves_registers, operand_register, result_register}
@@ -72,7 +72,7 @@ bit_of_none = refl
 pub quad : result_register (Compute Move Quad First Second) [] ≡ 15
 quad = refl
 
-pub compare : result_register (Compute Add Byte Both Codes) [] ≡ 0
+pub compare : result_register (Compute Add Byte Both CodesOnly) [] ≡ 0
 compare = refl
 
 pub nothing : changed_register Nothing [] ≡ 15

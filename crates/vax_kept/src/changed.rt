@@ -68,7 +68,7 @@ fn target_register(target: Target, operands: &[Operand]) -> u8
     ensures { result ≡ target_register target operands.now }
 {
     match target {
-        Target::Codes => 0,
+        Target::CodesOnly => 0,
         Target::First => register_at(0, operands),
         Target::Second => register_at(1, operands),
         Target::Third => register_at(2, operands),

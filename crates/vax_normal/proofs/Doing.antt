@@ -141,7 +141,7 @@ bit_done on x y z n d k jump fixed few held low is by has r q psw room alike pc 
     let within : nat_lt p 32 ≡ true = lt-ltb p 32 few in
     let went : Bool → Effect = λ b. went_if (comes_out on b) (long_of o 2) (begun o psw) in
     ap (λ (t : Dest). bit_in on None t (long_of o 0) (long_of o 2) (begun o psw)) dest ∙ ap (λ (m : ℕ). bit_in on None (Register reg) m (long_of o 2) (begun o psw)) position
-    ∙ ap (λ (b : Bool). let i : Interaction Effect = if b then Done (went (is_set (slice_index o.r reg) p)) else Refuse refusals.Operand in i) within
+    ∙ ap (λ (b : Bool). let i : Interaction Effect = if b then Done (went (is_set (slice_index o.r reg) p)) else Refuse refusals.ReservedOperand in i) within
     ∙ ap (λ (z : Effect). Done z) (ap went tested ∙ went_on (comes_out on (has_bits (2 ^ p) (number_by n r))) r o.r d k jump (long_of o 2) psw room pc to by)
 
 pub nothing_done : (k : ℕ) (xs : List Operand) → IsDoneBy (Branches Always k) k does.Nothing xs

@@ -6,7 +6,7 @@ use Rattle.vax_table.specs.Branches.{bit_in}
 use Rattle.vax_table.specs.Interaction.{Refuse}
 use Rattle.vax_table.specs.AllOperands.{past_own_bytes}
 use Rattle.vax_table.specs.declared.act.Dest.TheVariants.{Register}
-use Rattle.vax_table.specs.declared.act.Refusal.TheVariants.{Operand}
+use Rattle.vax_table.specs.declared.act.Refusal.TheVariants.{ReservedOperand}
 use Rattle.vax_table.specs.declared.meaning.Condition.TheVariants.{Always, Equal}
 use Rattle.vax_normal.specs.Normal.{done_by, gone_on, has_bits, number_by, quietly, with_result}
 use Rattle.vax_normal.specs.declared.shape.Shape.TheVariants.{Branches, BranchesOnBits, CountsDown}
@@ -86,7 +86,7 @@ pub constant_bit : (h : 0 < 16) → slice_index (done_by (BranchesOnBits true (r
 constant_bit h = refl
 
 -- a register has no bit 32: BBS #32,R2 is refused, and has no normal form
-pub no_such_bit : bit_in true None (Register 2) 32 0x240 (quietly registers 0) ≡ Refuse Operand
+pub no_such_bit : bit_in true None (Register 2) 32 0x240 (quietly registers 0) ≡ Refuse ReservedOperand
 no_such_bit = refl
 
 -- NOP goes on by its byte, whatever the condition codes are

@@ -102,7 +102,7 @@ fn target_register(target: Target, operands: &[Operand]) -> Option<u8>
     ensures { IfSome result (λ n. (q : List ℕ) → IsPutBy n (target_of target (all_at_hand operands.now q))) }
 {
     match target {
-        Target::Codes => Some(15),
+        Target::CodesOnly => Some(15),
         Target::First => register_at(0, operands),
         Target::Second => register_at(1, operands),
         Target::Third => register_at(2, operands),

@@ -246,7 +246,7 @@ pub fn put_by(target: Target, operands: &[Operand], writes: &Option<Reach>) -> O
     ensures { IfSome result (λ n. (v u at : ℕ) (r q : List ℕ) → IsClaimedAt writes.now r at → IsPutIn n writes.now (target_of target (all_had v u at operands.now q)) r) }
 {
     match target {
-        Target::Codes => nowhere(writes),
+        Target::CodesOnly => nowhere(writes),
         Target::First => put_at(0, operands, writes),
         Target::Second => put_at(1, operands, writes),
         Target::Third => put_at(2, operands, writes),

@@ -9,7 +9,7 @@ use vax_table::evaluation::Trouble;
 use vv_base::Width;
 
 /// What an instruction reaches in one mode: for reading and for writing, the byte at an address, or why there is none.
-/// An error is that of the first byte of the reference that has trouble, so it is never `Operand`. Addresses are
+/// An error is that of the first byte of the reference that has trouble, so it is never `ReservedOperand`. Addresses are
 /// modulo 2^32.
 pub trait Space {
     ghost space: { Self → Intent → ℕ → Result ℕ Cause };

@@ -4,7 +4,7 @@ use Rattle.std.proofs.lemmas.Bool.{ne_eqb}
 use Rattle.vax_table.specs.declared.decoded.Spec.{Spec}
 use Rattle.vax_table.specs.Rows.{OpcodeEntry, row_of}
 use Rattle.vax_table.specs.Spelling.{AreBytes, Operands, Instruction, Spells, wait, of_row, SpellsNone}
-use Rattle.vax_table.specs.Reading.{AtFront, Got, More, Bad, operands_at, Answer, Whole, Unknown, Reserved, answer_of, by_row, wait_at, decoded_at, IsAnswerFor, IsExact}
+use Rattle.vax_table.specs.Reading.{AtFront, Got, More, Bad, operands_at, Decoding, Whole, Unknown, Reserved, answer_of, by_row, wait_at, decoded_at, IsAnswerFor, IsExact}
 use Rattle.vax_table.proofs.Tests.{if_both, eq_of, ne_of}
 use Rattle.vax_table.proofs.Operands.{ReadsAll, operands_read, operands_again, operands_bad}
 
@@ -22,7 +22,7 @@ spelled_again front rest d (of_row entry opcode bytes specs b n r o e g) =
     let size1 : length front ≡ 1 + length bytes = omega arith in
     rw (g, size1) (rw e (rw (other, r, read, len)))
 
-spells_none : (b : List ℕ) (o : Answer) → ((d : Instruction) (rest : List ℕ) → o ≢ Whole d rest) → ((ys : List ℕ) → decoded_at (b ++ ys) ≡ o) → SpellsNone b
+spells_none : (b : List ℕ) (o : Decoding) → ((d : Instruction) (rest : List ℕ) → o ≢ Whole d rest) → ((ys : List ℕ) → decoded_at (b ++ ys) ≡ o) → SpellsNone b
 spells_none b o n stays = record {
   front = λ front rest d e m. n d rest (sym (stays []) ∙ (ap decoded_at (append-nil b ∙ e) ∙ spelled_again front rest d m));
   begin = λ tail d m. n d [] (sym (stays tail) ∙ (ap decoded_at (sym (append-nil (b ++ tail))) ∙ spelled_again (b ++ tail) [] d m));

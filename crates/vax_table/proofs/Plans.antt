@@ -139,7 +139,7 @@ values_length r n mask = let named : length (named_down n mask) ≤ n = named_le
 
 computed_sound : (fs : List Form) (m : ℕ) (cs : List ℕ) (op : AluOp) (w : Width) (inputs : Inputs) (target : Target) (o : Operands) (psw : ℕ) → is_fit (does.Compute op w inputs target) fs ≡ true → (are_few fs ≡ true → AreClaimed fs cs o) → length o.r ≡ m → Sound 1 m cs (computed op w inputs target o psw)
 unfolding computed is_fit
-computed_sound fs m cs op w inputs targets.Codes o psw f c h = none_stored 1 m cs o.r (none_claimed fs cs o c f) h
+computed_sound fs m cs op w inputs targets.CodesOnly o psw f c h = none_stored 1 m cs o.r (none_claimed fs cs o c f) h
 computed_sound fs m cs op w inputs targets.First o psw f c h = put_sound m cs (dest_of o 0) w _ _ (target_claimed fs cs o 0 w c f) (none_stored 0 m [] o.r refl h)
 computed_sound fs m cs op w inputs targets.Second o psw f c h = put_sound m cs (dest_of o 1) w _ _ (target_claimed fs cs o 1 w c f) (none_stored 0 m [] o.r refl h)
 computed_sound fs m cs op w inputs targets.Third o psw f c h = put_sound m cs (dest_of o 2) w _ _ (target_claimed fs cs o 2 w c f) (none_stored 0 m [] o.r refl h)

@@ -64,7 +64,7 @@ gets_none fs = are_few fs && keeps_none fs
 -- Where an operation stores through an operand, that one alone is kept, in the operation's width; where it stores
 -- through none, none is.
 unfoldable pub is_fit : Operation → List Form → Bool
-is_fit (does.Compute op w i targets.Codes) fs = gets_none fs
+is_fit (does.Compute op w i targets.CodesOnly) fs = gets_none fs
 is_fit (does.Compute op w i targets.First) fs = gets fs 0 w
 is_fit (does.Compute op w i targets.Second) fs = gets fs 1 w
 is_fit (does.Compute op w i targets.Third) fs = gets fs 2 w

@@ -5,12 +5,12 @@ use Rattle.vv_base.specs.Width.{size_of}
 use Rattle.vax_arch.specs.declared.mode.Intent.{Intent}
 use Rattle.vax_table.specs.Claims.{AreAmong, Holds, addresses, claims}
 use Rattle.vax_table.specs.Effects.{Effect}
-use Rattle.vax_table.specs.Fetch.{by_answer, decided, fetched}
+use Rattle.vax_table.specs.Fetch.{by_decoding, decided, fetched}
 use Rattle.vax_table.specs.AllOperands.{forms_in, operands_of, trap_operands}
 use Rattle.vax_table.specs.Operations.{operation_of}
 use Rattle.vax_table.specs.Plan.{plan_of}
 use Rattle.vax_table.specs.PlanLaws.{StoresAreClaimed, bytes_of_stores}
-use Rattle.vax_table.specs.Reading.{Answer, Whole, Short, Unknown, Reserved, decoded_at}
+use Rattle.vax_table.specs.Reading.{Decoding, Whole, Short, Unknown, Reserved, decoded_at}
 use Rattle.vax_table.specs.Rows.{row_of}
 use Rattle.vax_table.specs.Interaction.{Interaction, Space, outcome}
 use Rattle.vax_table.specs.Spelling.{Instruction}
@@ -72,7 +72,7 @@ acted_holds is_kernel psl d r = by_operation is_kernel psl (operation_of d.opcod
 abbrev FetchClaims : List ℕ → Instruction → Type 0
 FetchClaims cs d = cs ≡ []
 
-answer_holds : (more : List ℕ → Interaction Instruction) (at : ℕ) (bytes : List ℕ) (a : Answer) → ((bs : List ℕ) → Holds FetchClaims [] (more bs)) → Holds FetchClaims [] (by_answer more at bytes a)
+answer_holds : (more : List ℕ → Interaction Instruction) (at : ℕ) (bytes : List ℕ) (a : Decoding) → ((bs : List ℕ) → Holds FetchClaims [] (more bs)) → Holds FetchClaims [] (by_decoding more at bytes a)
 answer_holds more at bytes (Whole d rest) h = refl
 answer_holds more at bytes Short h = λ b. h (bytes ++ b ∷ [])
 answer_holds more at bytes Unknown h = tt

@@ -14,7 +14,7 @@ use Rattle.vax_table.specs.Interaction.{Interaction, Done, Refuse, Touch, ◌>>=
 use Rattle.vax_table.specs.Stack.{push}
 use Rattle.vax_table.specs.declared.act.Dest.{Dest}
 use Rattle.vax_table.specs.declared.act.Dest.TheVariants.{Nowhere, Register, Memory}
-use Rattle.vax_table.specs.declared.act.Refusal.TheVariants.{Operand}
+use Rattle.vax_table.specs.declared.act.Refusal.TheVariants.{ReservedOperand}
 use Rattle.vax_table.specs.declared.answer.Alu.{Alu}
 use Rattle.vax_table.specs.declared.answer.AluOp.TheVariants.{Add, Sub, Cmp}
 use Rattle.vax_table.specs.declared.evaluation.Operands.{Operands}
@@ -109,7 +109,7 @@ byte_of_bit base position = plus base (reduced Long (int_div_euclid (signed_of L
 abbrev pub bit_in : Bool → Option Bool → Dest → ℕ → ℕ → Effect → Interaction Effect
 bit_in on becomes Nowhere position to e = Done e
 bit_in on becomes (Register n) position to e =
-    if nat_lt position 32 then Done (bit_tested on becomes (Register n) Long position (slice_index e.r n) to e) else Refuse Operand
+    if nat_lt position 32 then Done (bit_tested on becomes (Register n) Long position (slice_index e.r n) to e) else Refuse ReservedOperand
 bit_in on becomes (Memory base) position to e =
     let at = byte_of_bit base position in
     Touch (bit_intent becomes) at 1 (λ n. Done (bit_tested on becomes (Memory at) Byte (position % 8) n to e))

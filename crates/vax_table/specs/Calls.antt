@@ -9,7 +9,7 @@ use Rattle.vax_table.specs.Effects.{Effect, begun, long_of}
 use Rattle.vax_table.specs.Interaction.{Interaction, Done, Refuse, Touch, ◌>>=◌}
 use Rattle.vax_table.specs.Operand.{place, plus}
 use Rattle.vax_table.specs.Stack.{named_down, named_up, pop_all, push, push_all}
-use Rattle.vax_table.specs.declared.act.Refusal.TheVariants.{Operand}
+use Rattle.vax_table.specs.declared.act.Refusal.TheVariants.{ReservedOperand}
 use Rattle.vax_table.specs.declared.evaluation.Operands.{Operands}
 use Rattle.vax_table.specs.declared.evaluation.Place.{Place}
 
@@ -29,7 +29,7 @@ registers_popped o psw =
 
 -- the entry mask is the word at the procedure; its bits 13:12 are a reserved operand
 abbrev pub entry_mask : ℕ → Interaction ℕ
-entry_mask procedure = Touch Read procedure 2 (λ mask. if mask / 2 ^ 12 % 4 == 0 then Done mask else Refuse Operand)
+entry_mask procedure = Touch Read procedure 2 (λ mask. if mask / 2 ^ 12 % 4 == 0 then Done mask else Refuse ReservedOperand)
 
 -- the frame's second longword: alignment 31:30, S flag 29, mask 27:16, PSW 15:5
 abbrev pub frame_word : Bool → ℕ → ℕ → ℕ → ℕ
@@ -91,4 +91,4 @@ unfoldable pub returned : Operands → ℕ → Interaction Effect
 returned o psw =
     let fp = slice_index o.r 13 in
     Touch Read fp 4 (λ handler. Touch Read (plus fp 4) 4 (λ word.
-    if word / 2 ^ 8 % 2 ^ 8 == 0 then frame_left fp word o psw else Refuse Operand))
+    if word / 2 ^ 8 % 2 ^ 8 == 0 then frame_left fp word o psw else Refuse ReservedOperand))

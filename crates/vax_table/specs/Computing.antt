@@ -7,7 +7,7 @@ use Rattle.vax_table.specs.Effects.{Effect, begun, long_of, put}
 use Rattle.vax_table.specs.Interaction.{Interaction, Done, Refuse}
 use Rattle.vax_table.specs.Stack.{push}
 use Rattle.vax_table.specs.declared.act.Dest.{Dest}
-use Rattle.vax_table.specs.declared.act.Refusal.TheVariants.{Operand}
+use Rattle.vax_table.specs.declared.act.Refusal.TheVariants.{ReservedOperand}
 use Rattle.vax_table.specs.declared.answer.AluOp.TheVariants.{Move}
 use Rattle.vax_table.specs.declared.evaluation.Operands.{Operands}
 
@@ -22,8 +22,8 @@ operand_pushed o psw = push (long_of o 0) (record (begun o psw) { psw = (alu_of 
 -- BISPSW and BICPSW: a mask with any of bits 15:8 is a reserved operand
 unfoldable pub status_set : Operands → ℕ → Interaction Effect
 status_set o psw =
-    if long_of o 0 / 2 ^ 8 == 0 then Done (record (begun o psw) { psw = bit_or psw (long_of o 0) }) else Refuse Operand
+    if long_of o 0 / 2 ^ 8 == 0 then Done (record (begun o psw) { psw = bit_or psw (long_of o 0) }) else Refuse ReservedOperand
 
 unfoldable pub status_cleared : Operands → ℕ → Interaction Effect
 status_cleared o psw =
-    if long_of o 0 / 2 ^ 8 == 0 then Done (record (begun o psw) { psw = bit_and psw (255 - long_of o 0) }) else Refuse Operand
+    if long_of o 0 / 2 ^ 8 == 0 then Done (record (begun o psw) { psw = bit_and psw (255 - long_of o 0) }) else Refuse ReservedOperand

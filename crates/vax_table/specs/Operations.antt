@@ -56,7 +56,7 @@ second_input OneAndFirst o = long_of o 0
 
 -- where the result goes
 abbrev pub target_of : Target → Operands → Dest
-target_of targets.Codes o = Nowhere
+target_of targets.CodesOnly o = Nowhere
 target_of targets.First o = dest_of o 0
 target_of targets.Second o = dest_of o 1
 target_of targets.Third o = dest_of o 2

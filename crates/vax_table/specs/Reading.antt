@@ -87,32 +87,32 @@ operands_at (f ∷ fs) bytes = then_read (operand_at f bytes) (λ s rest. then_r
 
 -- a whole instruction and the bytes after it, bytes that begin one, an opcode that no instruction
 -- has, or a reserved form
-pub data Answer : Type 0 where
-  Whole : Instruction → List ℕ → Answer
-  Short : Answer
-  Unknown : Answer
-  Reserved : Answer
+pub data Decoding : Type 0 where
+  Whole : Instruction → List ℕ → Decoding
+  Short : Decoding
+  Unknown : Decoding
+  Reserved : Decoding
 
-abbrev pub answer_of : ℕ → List ℕ → AtFront (List Spec) → Answer
+abbrev pub answer_of : ℕ → List ℕ → AtFront (List Spec) → Decoding
 answer_of opcode bytes (Got ss rest) = Whole (record { opcode = opcode; wait = false; length = 1 + (length bytes - length rest); specs = ss }) rest
 answer_of opcode bytes More = Short
 answer_of opcode bytes Bad = Reserved
 
-abbrev pub by_row : ℕ → List ℕ → Option OpcodeEntry → Answer
+abbrev pub by_row : ℕ → List ℕ → Option OpcodeEntry → Decoding
 by_row opcode bytes None = Unknown
 by_row opcode bytes (Some e) = answer_of opcode bytes (operands_at e.operands bytes)
 
 -- after FD
-abbrev pub wait_at : List ℕ → Answer
+abbrev pub wait_at : List ℕ → Decoding
 wait_at [] = Short
 wait_at (c ∷ cs) = if c == 1 then Whole (record { opcode = 0xfd; wait = true; length = 2; specs = [] }) cs else Unknown
 
-unfoldable pub decoded_at : List ℕ → Answer
+unfoldable pub decoded_at : List ℕ → Decoding
 decoded_at [] = Short
 decoded_at (b ∷ bs) = if b == 0xfd then wait_at bs else by_row b bs (row_of b)
 
 -- what an answer says of the bytes, in terms of spelling alone
-abbrev pub IsAnswerFor : List ℕ → Answer → Type 0
+abbrev pub IsAnswerFor : List ℕ → Decoding → Type 0
 IsAnswerFor b (Whole d rest) = (front : List ℕ) × (b ≡ front ++ rest) × Spells front d
 IsAnswerFor b Short = (tail : List ℕ) × (d : Instruction) × (0 < length tail) × Spells (b ++ tail) d
 IsAnswerFor b Unknown = SpellsNone b × (HasOpcode b → ⊥)

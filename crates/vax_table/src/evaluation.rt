@@ -9,7 +9,7 @@ use crate::act::Dest;
 pub enum Trouble {
     NotValid { va: u32, write: bool },
     Denied { va: u32, write: bool },
-    Operand,
+    ReservedOperand,
 }
 
 /// The address of an operand, and the registers with its side effect.

@@ -16,7 +16,7 @@ use Rattle.vm_exception.specs.Initiated.{Initiates, InitiatesTo, IsInitiated, St
 use Rattle.vm_exception.specs.declared.initiated.Initiated.TheVariants as starts
 use Rattle.vm_shadow.specs.Shadowed.{Shadowed}
 use Rattle.vm_shadow.specs.StandsFor.{OnlyGuest, StandsFor}
-use Rattle.vm_state.specs.Initiate.{Initiation, KernelStackBad, Stops, Taken, initiate, new_mode}
+use Rattle.vm_state.specs.Initiate.{Initiation, KernelStackBad, StopsGuest, Taken, initiate, new_mode}
 use Rattle.vm_state.specs.Partition.{guest_of, partition_of}
 use Rattle.vm_state.specs.Pushes.{Faulty, Homes, PastMemory, Walked, push_walked}
 use Rattle.vm_state.specs.Sensed.{ClearAt, Does, Faults, LacksMemory, Sensed, StopsThere}
@@ -36,15 +36,15 @@ module _ (e : Exc) (m m' : Machine) (s s' : Shadowed) (g g' : GuestState) where
   begun : (i : Initiation) → i ≡ initiate (guest_of m.memory g) e → IsInitiated i starts.Taken m s g m' s' g' → StandsFor m'.memory s' g' → HasPlace g.pages g.base g.start g' → OnlyGuest s m m' → Senses (mode_changed (initiate (guest_of m.memory g) e)) m s g outcomes.Done m' s' g'
   begun (Taken h frames) is b stands place only = subst (λ x. Senses (mode_changed x) m s g outcomes.Done m' s' g') is (record { is = goes_on h frames m' s s' g' stands b; stands = stands; place = place; only = only })
   begun (KernelStackBad h frames) is b stands place only = absurd b
-  begun (Stops stop) is b stands place only = absurd b
+  begun (StopsGuest stop) is b stands place only = absurd b
 
   begun_bad : (i : Initiation) → i ≡ initiate (guest_of m.memory g) e → IsInitiated i starts.KernelStackBad m s g m' s' g' → StandsFor m'.memory s' g' → HasPlace g.pages g.base g.start g' → OnlyGuest s m m' → Senses (mode_changed (initiate (guest_of m.memory g) e)) m s g outcomes.Done m' s' g'
   begun_bad (KernelStackBad h frames) is b stands place only = subst (λ x. Senses (mode_changed x) m s g outcomes.Done m' s' g') is (record { is = goes_on h frames m' s s' g' stands b; stands = stands; place = place; only = only })
   begun_bad (Taken h frames) is b stands place only = absurd b
-  begun_bad (Stops stop) is b stands place only = absurd b
+  begun_bad (StopsGuest stop) is b stands place only = absurd b
 
   stopped : (code : ℕ) (i : Initiation) → i ≡ initiate (guest_of m.memory g) e → IsInitiated i (starts.Stopped code) m s g m' s' g' → StandsFor m'.memory s' g' → HasPlace g.pages g.base g.start g' → OnlyGuest s m m' → Senses (mode_changed (initiate (guest_of m.memory g) e)) m s g (outcomes.Stopped code) m' s' g'
-  stopped code (Stops stop) is b stands place only = subst (λ x. Senses (mode_changed x) m s g (outcomes.Stopped code) m' s' g') is (record { is = b; stands = stands; place = place; only = only })
+  stopped code (StopsGuest stop) is b stands place only = subst (λ x. Senses (mode_changed x) m s g (outcomes.Stopped code) m' s' g') is (record { is = b; stands = stands; place = place; only = only })
   stopped code (Taken h frames) is b stands place only = absurd b
   stopped code (KernelStackBad h frames) is b stands place only = absurd b
 
@@ -67,7 +67,7 @@ IsUnmarked _ = Unit {0}
 changed_unmarked : (i : Initiation) → IsUnmarked (mode_changed i)
 changed_unmarked (Taken h frames) = tt
 changed_unmarked (KernelStackBad h frames) = tt
-changed_unmarked (Stops stop) = tt
+changed_unmarked (StopsGuest stop) = tt
 
 walked_unmarked : (i : Initiation) (w : Walked) → IsUnmarked (chm_walked i w)
 walked_unmarked i (Homes hs) = changed_unmarked i

@@ -22,7 +22,7 @@ use Rattle.vm_shadow.specs.Shadowed.{Shadowed}
 use Rattle.vm_shadow.specs.StandsFor.{OnlyGuest, StandsFor}
 use Rattle.vm_state.specs.Contexts as contexts
 use Rattle.vm_state.specs.Contexts.{after_push, after_reads, is_block_past, is_block_reserved, loaded, loads_context, saves_context, two_popped}
-use Rattle.vm_state.specs.Initiate.{Initiation, KernelStackBad, Stops, Taken, initiate, new_mode}
+use Rattle.vm_state.specs.Initiate.{Initiation, KernelStackBad, StopsGuest, Taken, initiate, new_mode}
 use Rattle.vm_state.specs.Partition.{guest_of}
 use Rattle.vm_state.specs.Pushes.{Faulty, Homes, PastMemory, Walked, push_walked}
 use Rattle.vm_state.specs.Registers.{Value, read}
@@ -79,7 +79,7 @@ silent_shows outcomes.Filled LacksMemory k = refl
 silent_changed : (i : Initiation) → IsSilent (mode_changed i)
 silent_changed (Taken h written) = refl
 silent_changed (KernelStackBad h written) = refl
-silent_changed (Stops stop) = tt
+silent_changed (StopsGuest stop) = tt
 
 silent_walked : (i : Initiation) (w : Walked) → IsSilent (chm_walked i w)
 silent_walked i (Homes hs) = silent_changed i

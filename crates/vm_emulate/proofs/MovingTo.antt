@@ -27,8 +27,8 @@ use Rattle.vm_state.specs.State.{Guest, HasPlace, State, state_of, tables_of}
 use Rattle.vm_state.specs.Translation.{frame_at, long_stored}
 use Rattle.vm_state.specs.declared.exception.Exc.TheVariants as excs
 use Rattle.vm_state.specs.declared.guest_state.GuestState.{GuestState}
-use Rattle.vm_state.specs.declared.register.Effect.{Effect}
-use Rattle.vm_state.specs.declared.register.Effect.TheVariants as effects
+use Rattle.vm_state.specs.declared.register.RegisterEffect.{RegisterEffect}
+use Rattle.vm_state.specs.declared.register.RegisterEffect.TheVariants as effects
 use Rattle.vm_state.specs.declared.register.ReservedOperand.{ReservedOperand}
 use Rattle.vm_state.specs.declared.transfer.Accept.{Accept}
 use Rattle.vm_state.specs.declared.transfer.Accept.TheVariants.{BadPacket, Busy, Queued}
@@ -56,7 +56,7 @@ module _ (m : Machine) (s : Shadowed) (g : GuestState) (t : Trapped) (stands : S
   pub is_refused : (refused : ReservedOperand) → written (past_instruction (state_of g) t) t.b t.a ≡ Err refused → Senses (move_to_register whole t) m s g (outcomes.Fault excs.ReservedOperand) m s g
   is_refused refused e = faults (move_to_register whole t) excs.ReservedOperand m s g stands (ap (mtpr_by whole t.a) e)
 
-  module _ (g1 : GuestState) (effect : Effect) (w : MovesToRegister g t (Ok effect) g1) (place : HasPlace g.pages g.base g.start g1) where
+  module _ (g1 : GuestState) (effect : RegisterEffect) (w : MovesToRegister g t (Ok effect) g1) (place : HasPlace g.pages g.base g.start g1) where
     -- the tables' registers have allowed values
     pub can_switch : CanBeShadowed (tables_of g1)
     can_switch =

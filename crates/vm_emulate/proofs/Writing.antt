@@ -11,20 +11,20 @@ use Rattle.vm_state.specs.Registers.{Written, allows, register_of, register_row,
 use Rattle.vm_state.specs.Sensitive.{with_codes}
 use Rattle.vm_state.specs.State.{State, stack_in, state_of}
 use Rattle.vm_state.specs.declared.guest_state.GuestState.{GuestState}
-use Rattle.vm_state.specs.declared.register.Effect.{Effect}
-use Rattle.vm_state.specs.declared.register.Effect.TheVariants as effects
+use Rattle.vm_state.specs.declared.register.RegisterEffect.{RegisterEffect}
+use Rattle.vm_state.specs.declared.register.RegisterEffect.TheVariants as effects
 use Rattle.vm_state.specs.declared.register.Register.{Register}
 use Rattle.vm_state.specs.declared.register.Register.TheVariants.{Ksp, Esp, Ssp, Usp, Isp, P0br, P0lr, P1br, P1lr, Sbr, Slr, Mapen}
 use Rattle.vm_state.specs.declared.register.ReservedOperand.{ReservedOperand}
 use Rattle.vm_state.specs.declared.transfer.Accept.{Accept}
 use Rattle.vm_state.specs.declared.transfer.Accept.TheVariants.{BadPacket, Busy, Queued}
 
-pub is_written : (g g2 g3 : GuestState) (t : Trapped) (r : List ℕ) (x : Result Effect ReservedOperand) (effect : Effect) → r ≡ t.regs ++ t.next_pc ∷ [] → x ≡ Ok effect → WritesRegister (record g { r = r }) g2 t.b t.a x → state_of g3 ≡ with_codes t.a (state_of g2) → MovesToRegister g t (Ok effect) g3
+pub is_written : (g g2 g3 : GuestState) (t : Trapped) (r : List ℕ) (x : Result RegisterEffect ReservedOperand) (effect : RegisterEffect) → r ≡ t.regs ++ t.next_pc ∷ [] → x ≡ Ok effect → WritesRegister (record g { r = r }) g2 t.b t.a x → state_of g3 ≡ with_codes t.a (state_of g2) → MovesToRegister g t (Ok effect) g3
 is_written g g2 g3 t r x effect is e w codes =
     (state_of g2, ap (λ (y : List ℕ). written (record (state_of g) { r = y }) t.b t.a) (sym is) ∙ subst (WritesRegister (record g { r = r }) g2 t.b t.a) e w, codes)
 
 -- what a write leaves, by what it asks for
-abbrev pub Leaves : Effect → State → State → Type 0
+abbrev pub Leaves : RegisterEffect → State → State → Type 0
 Leaves effects.Done s u = u.tables ≡ s.tables
 Leaves (effects.Show byte) s u = u.tables ≡ s.tables
 Leaves effects.Remap s u = Unit {0}
@@ -56,7 +56,7 @@ by_register : (s : State) (v : ℕ) (r : Option Register) → WrittenLeaves s (w
 by_register s v None = tt
 by_register s v (Some r) = cond_both (allows r v) _ _ (WrittenLeaves s) (λ e. write_leaves r v s) (λ e. tt)
 
-pub leaves : (s u : State) (number v : ℕ) (effect : Effect) → written s number v ≡ Ok (record { state = u; effect = effect }) → Leaves effect s u
+pub leaves : (s u : State) (number v : ℕ) (effect : RegisterEffect) → written s number v ≡ Ok (record { state = u; effect = effect }) → Leaves effect s u
 unfolding written
 leaves s u number v effect e = subst (WrittenLeaves s) e (by_register s v (register_of number))
 

@@ -10,13 +10,13 @@ use Rattle.vm_state.specs.Sensitive.{past_instruction, with_codes}
 use Rattle.vm_state.specs.State.{State, state_of}
 use Rattle.vm_state.specs.Translation.{long_stored}
 use Rattle.vm_state.specs.declared.guest_state.GuestState.{GuestState}
-use Rattle.vm_state.specs.declared.register.Effect.{Effect}
+use Rattle.vm_state.specs.declared.register.RegisterEffect.{RegisterEffect}
 use Rattle.vm_state.specs.declared.register.ReservedOperand.{ReservedOperand}
 use Rattle.vm_state.specs.declared.transfer.Accept.{Accept}
 use Rattle.vm_state.specs.declared.transfer.Accept.TheVariants.{BadPacket, Busy, Queued}
 
 -- the register is written and the codes are set; a refused write leaves the guest as it was
-abbrev pub MovesToRegister : GuestState → Trapped → Result Effect ReservedOperand → GuestState → Type 0
+abbrev pub MovesToRegister : GuestState → Trapped → Result RegisterEffect ReservedOperand → GuestState → Type 0
 MovesToRegister g t (Ok effect) g' = (u : State) × (written (past_instruction (state_of g) t) t.b t.a ≡ Ok (record { state = u; effect = effect })) × (state_of g' ≡ with_codes t.a u)
 MovesToRegister g t (Err refused) g' = (written (past_instruction (state_of g) t) t.b t.a ≡ Err refused) × (g' ≡ g)
 

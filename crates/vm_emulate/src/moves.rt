@@ -19,7 +19,7 @@ use vm_console::Port;
 use vm_ipr::mtpr;
 use vm_kcall::{Accept, accept};
 use vm_shadow::Shadow;
-use vm_state::{Effect, Exc, GuestState, ReservedOperand};
+use vm_state::{RegisterEffect, Exc, GuestState, ReservedOperand};
 use vv_base::Width;
 
 /// Sets the codes of a longword that was moved.
@@ -32,7 +32,7 @@ pub fn set_codes(g: &mut GuestState, v: u32)
 }
 
 /// Writes the register that MTPR names, and goes after it with the codes of the value. A refused write changes nothing.
-fn write_register(g: &mut GuestState, t: &Trapped) -> Result<Effect, ReservedOperand>
+fn write_register(g: &mut GuestState, t: &Trapped) -> Result<RegisterEffect, ReservedOperand>
     ensures is { MovesToRegister g.old t.now result g.new }
     ensures place { HasPlace g.old.pages g.old.base g.old.start g.new }
 {
@@ -97,16 +97,16 @@ pub fn move_to_register<H: Hardware, T: Port>(
         return Emulated::Fault(Exc::ReservedOperand);
     };
     match effect {
-        Effect::Done => Emulated::Done,
-        Effect::Remap => {
+        RegisterEffect::Done => Emulated::Done,
+        RegisterEffect::Remap => {
             s.switch(machine, g);
             Emulated::Done
         }
-        Effect::Show(byte) => {
+        RegisterEffect::Show(byte) => {
             port.show(byte);
             Emulated::Done
         }
-        Effect::Kcall(packet) => match hand_over(machine, s, g, packet) {
+        RegisterEffect::Kcall(packet) => match hand_over(machine, s, g, packet) {
             Accept::Queued => Emulated::Done,
             Accept::Busy => Emulated::Done,
             Accept::BadPacket => {

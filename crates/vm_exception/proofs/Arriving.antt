@@ -19,7 +19,7 @@ use Rattle.vm_shadow.proofs.Contexts.{aligned_of}
 use Rattle.vm_shadow.proofs.Covering.{own_is, own_length}
 use Rattle.vm_state.specs.Allowed.{AreAllowed}
 use Rattle.vm_state.specs.Initiate as initiations
-use Rattle.vm_state.specs.Initiate.{Arrives, Halts, StackFaulty, Stops, attempt, in_its_place, initiate, initiated, begun_at, after_walk, by_vector, is_bad_vector, longwords, new_mode, new_stack, uses_interrupt_stack, vector_offset}
+use Rattle.vm_state.specs.Initiate.{Arrives, Halts, StackFaulty, StopsGuest, attempt, in_its_place, initiate, initiated, begun_at, after_walk, by_vector, is_bad_vector, longwords, new_mode, new_stack, uses_interrupt_stack, vector_offset}
 use Rattle.vm_state.specs.Partition.{guest_of, partition_of}
 use Rattle.vm_state.specs.Pushes.{Faulty, Home, Homes, PastMemory, Walked, frames_pushed, pointer_after, push_walked, pushed}
 use Rattle.vm_state.specs.State.{Guest, HasPlace, State, pointer_of, state_of, tables_of}
@@ -163,7 +163,7 @@ taken e m m' s s' g g' a =
     record { is = rw b.2 b.3; stands = a.stands; place = a.place; only = a.only }
 
 -- it stops the guest
-stop_record : (e : Exc) (m : Machine) (s : Shadowed) (g g' : GuestState) (stop : stops.Stop) (code : ℕ) → StandsFor m.memory s g → initiate (guest_of m.memory g) e ≡ Stops stop → code ≡ stop_code stop → state_of g' ≡ record (state_of g) { halt = Some code } → HasPlace g.pages g.base g.start g' → Initiates e m s g (outcomes.Stopped code) m s g'
+stop_record : (e : Exc) (m : Machine) (s : Shadowed) (g g' : GuestState) (stop : stops.Stop) (code : ℕ) → StandsFor m.memory s g → initiate (guest_of m.memory g) e ≡ StopsGuest stop → code ≡ stop_code stop → state_of g' ≡ record (state_of g) { halt = Some code } → HasPlace g.pages g.base g.start g' → Initiates e m s g (outcomes.Stopped code) m s g'
 stop_record e m s g g' stop code stands all c state place = record {
   is = rw all (c, record { state = state; machine = refl; shadow = refl });
   stands = stopped_stands m.memory s g g' code stands state place;

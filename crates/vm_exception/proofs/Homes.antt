@@ -16,7 +16,7 @@ use Rattle.vax_arch.specs.declared.walk.Lookup.TheVariants.{Beyond, Direct, Fail
 use Rattle.vax_arch.proofs.Walks.{looks_aligned, looks_inside}
 use Rattle.vm_exception.specs.Wrote.{AreHomes, IsEntryPlace}
 use Rattle.vm_shadow.proofs.Lookups.{IsBy, looks_by}
-use Rattle.vm_state.specs.Pushes.{Byte, Faulty, Home, Homes, PastMemory, Walked, push_walked, pushed_bytes, walked, with_home}
+use Rattle.vm_state.specs.Pushes.{PushedByte, Faulty, Home, Homes, PastMemory, Walked, push_walked, pushed_bytes, walked, with_home}
 use Rattle.vm_state.specs.State.{Guest}
 use Rattle.vm_state.specs.Translation.{at_entry, look, walk_by, walk_of}
 use Rattle.vm_state.specs.declared.walk.Walk.{Walk}
@@ -72,7 +72,7 @@ home_then size v (walks.Frame pa entry table) PastMemory f h = tt
 home_then size v (walks.Fault x) rest f h = tt
 home_then size v walks.Beyond rest f h = tt
 
-all_homes : (g : Guest) (m : Mode) (bytes : List Byte) → AreAligned g.state.tables → HaveHomes (length g.memory) (walked g m bytes)
+all_homes : (g : Guest) (m : Mode) (bytes : List PushedByte) → AreAligned g.state.tables → HaveHomes (length g.memory) (walked g m bytes)
 all_homes g m [] a = tt
 all_homes g m (b ∷ bs) a = home_then (length g.memory) b.value (walk_of g b.at m Write) (walked g m bs) (finds_inside g b.at m Write a) (all_homes g m bs a)
 

@@ -10,7 +10,7 @@ use Rattle.vm_exception.specs.declared.initiated.Initiated.TheVariants as outcom
 use Rattle.vm_shadow.specs.Shadowed.{Shadowed}
 use Rattle.vm_shadow.specs.StandsFor.{OnlyGuest, StandsFor}
 use Rattle.vm_state.specs.Allowed.{AreAllowed}
-use Rattle.vm_state.specs.Initiate.{Initiation, KernelStackBad, Stops, Taken, initiate}
+use Rattle.vm_state.specs.Initiate.{Initiation, KernelStackBad, StopsGuest, Taken, initiate}
 use Rattle.vm_state.specs.Interrupts.{IntervalClock, Kcall, Receiver, Software, Source, Transmitter, due, interrupt_of, source_row}
 use Rattle.vm_state.specs.Partition.{guest_of, part, partition_of}
 use Rattle.vm_state.specs.State.{Guest, HasPlace, State, pc_of, state_of}
@@ -24,7 +24,7 @@ use Rattle.vm_state.proofs.Initiations.{LevelFits, initiate_keeps}
 -- Where the guest stops, that is shown.
 module _ (code : ℕ) (m m' : Machine) (s s' : Shadowed) (g g' : GuestState) where
   stop_shown : (kind : Kind) (x : Initiation) → IsInitiated x (outcomes.Stopped code) m s g m' s' g' → stop_text code (pc_of (state_of g')) ≡ (initiated_in kind (guest_of m.memory g) x).shown
-  stop_shown kind (Stops stop) b = λ i. stop_text (b.0 i) (pc_of (b.1.state i))
+  stop_shown kind (StopsGuest stop) b = λ i. stop_text (b.0 i) (pc_of (b.1.state i))
   stop_shown kind (Taken h frames) b = absurd b
   stop_shown kind (KernelStackBad h frames) b = absurd b
 
@@ -32,7 +32,7 @@ module _ (code : ℕ) (m m' : Machine) (s s' : Shadowed) (g g' : GuestState) whe
   begin_stops e kind k = stop_shown kind (initiate (guest_of m.memory g) e) k.is
 
   alike : (x : Source) (y : Initiation) → IsInitiated y (outcomes.Stopped code) m s g m' s' g' → (initiated_in Interrupt (guest_of m.memory g) y).shown ≡ (interrupted (guest_of m.memory g) x y).shown
-  alike x (Stops stop) b = refl
+  alike x (StopsGuest stop) b = refl
   alike x (Taken h frames) b = absurd b
   alike x (KernelStackBad h frames) b = absurd b
 
@@ -53,8 +53,8 @@ module _ (kind : Kind) (m m' : Machine) (s s' : Shadowed) (g g' : GuestState) wh
   goes_on x (outcomes.Stopped code) n b stands place only = absurd (n code refl)
   goes_on (Taken h frames) outcomes.KernelStackBad n b stands place only = absurd b
   goes_on (KernelStackBad h frames) outcomes.Taken n b stands place only = absurd b
-  goes_on (Stops stop) outcomes.Taken n b stands place only = absurd b
-  goes_on (Stops stop) outcomes.KernelStackBad n b stands place only = absurd b
+  goes_on (StopsGuest stop) outcomes.Taken n b stands place only = absurd b
+  goes_on (StopsGuest stop) outcomes.KernelStackBad n b stands place only = absurd b
 
   pub begins : (e : Exc) (r : Initiated) → ((code : ℕ) → r ≢ outcomes.Stopped code) → Initiates e m s g r m' s' g' → GoesOn (initiate (guest_of m.memory g) e)
   begins e r n k = goes_on (initiate (guest_of m.memory g) e) r n k.is k.stands k.place k.only
@@ -70,7 +70,7 @@ fits (Software level) h = let small : level < 16 = h in omega arith
 by_taken : (x : Initiation) (m m' : Machine) (s s' : Shadowed) (g g' : GuestState) → IsInitiated x outcomes.Taken m s g m' s' g' → (h : Guest) × (frames : List ℕ) × (x ≡ Taken h frames) × InitiatesTo h frames s m' s' g'
 by_taken (Taken h frames) m m' s s' g g' b = (h, frames, refl, b)
 by_taken (KernelStackBad h frames) m m' s s' g g' b = absurd b
-by_taken (Stops stop) m m' s s' g g' b = absurd b
+by_taken (StopsGuest stop) m m' s s' g g' b = absurd b
 
 tables_stay : (x : Source) (s : State) → ((source_row x).taken s).tables ≡ s.tables
 tables_stay IntervalClock s = refl
@@ -117,7 +117,7 @@ module _ (x : Source) (e : Exc) (m m' : Machine) (s s' : Shadowed) (g g' : Guest
         let later : state_of g2 ≡ (source_row x).taken h.state = state ∙ ap (λ (y : Guest). (source_row x).taken y.state) b.guest in
         record { guest = λ i. record { memory = memory i; state = later i }; drops = b.drops; stands = ended_stands; place = ended_place; only = start.only }
     ended (KernelStackBad h frames) b = absurd b
-    ended (Stops stop) b = absurd b
+    ended (StopsGuest stop) b = absurd b
 
     pub interrupt_taken : MakesStep (interrupted (guest_of m.memory g) x whole) m s g m' s' g2
     interrupt_taken = ended whole taken_now

@@ -62,11 +62,11 @@ beside g va other m i pa entry table same e =
 -- Longwords that are pushed in one page.
 
 -- all bytes lie in a page
-abbrev InPage : ℕ → List pushes.Byte → Type 0
+abbrev InPage : ℕ → List pushes.PushedByte → Type 0
 InPage page [] = Unit {0}
 InPage page (b ∷ bs) = (b.at / 512 ≡ page) × InPage page bs
 
-in_both : (page : ℕ) (bs cs : List pushes.Byte) → InPage page bs → InPage page cs → InPage page (bs ++ cs)
+in_both : (page : ℕ) (bs cs : List pushes.PushedByte) → InPage page bs → InPage page cs → InPage page (bs ++ cs)
 in_both page [] cs h k = k
 in_both page (b ∷ bs) cs h k = (h.0, in_both page bs cs h.1 k)
 
@@ -86,7 +86,7 @@ pushed_in low sp (v ∷ vs) small room e =
     at_byte : (low n at x k : ℕ) → low < 2 ^ 32 → low % 512 + 4 * suc n ≤ 512 → at ≡ low + 4 * n → k < 4 → x ≡ at + k → x % 2 ^ 32 / 512 ≡ low / 512
     at_byte low n at x k small room e h is = omega (arith, small, room, e, h, is)
 
-framed_all : (g : Guest) (m : Mode) (other pa : ℕ) (entry table : Option ℕ) (bs : List pushes.Byte) → walks.Frame pa entry table ≡ walk_of g other m Write → InPage (other / 512) bs → walked g m bs ≡ Homes (map (home_in (pa / 512 * 512) entry) bs)
+framed_all : (g : Guest) (m : Mode) (other pa : ℕ) (entry table : Option ℕ) (bs : List pushes.PushedByte) → walks.Frame pa entry table ≡ walk_of g other m Write → InPage (other / 512) bs → walked g m bs ≡ Homes (map (home_in (pa / 512 * 512) entry) bs)
 framed_all g m other pa entry table [] e h = refl
 framed_all g m other pa entry table (b ∷ bs) e h =
     ap (λ x. with_home b.value x (walked g m bs)) (sym (beside g b.at other m Write pa entry table h.0 e)) ∙ ap (with_home b.value (walks.Frame (pa / 512 * 512 + b.at % 512) entry table)) (framed_all g m other pa entry table bs e h.1)
@@ -112,11 +112,11 @@ first_address sp = omega arith
 pub faulty_first : (sp : ℕ) (vs : List ℕ) (g : Guest) (m : Mode) (f : MemFault) → 1 ≤ length vs → walks.Fault f ≡ walk_of g (minus sp 4) m Write → walked g m (pushed_bytes sp vs) ≡ Faulty f
 faulty_first sp [] g m f some e = absurd (omega arith)
 faulty_first sp (v ∷ vs) g m f some e =
-    let rest : List pushes.Byte = bytes_from 3 (minus sp 4 + 1) (v / 256) ++ pushed_bytes (minus sp 4) vs in
+    let rest : List pushes.PushedByte = bytes_from 3 (minus sp 4 + 1) (v / 256) ++ pushed_bytes (minus sp 4) vs in
     ap (λ a. with_home (v % 256) (walk_of g a m Write) (walked g m rest)) (first_address sp) ∙ ap (λ x. with_home (v % 256) x (walked g m rest)) (sym e)
 
 pub past_first : (sp : ℕ) (vs : List ℕ) (g : Guest) (m : Mode) → 1 ≤ length vs → walks.Beyond ≡ walk_of g (minus sp 4) m Write → walked g m (pushed_bytes sp vs) ≡ PastMemory
 past_first sp [] g m some e = absurd (omega arith)
 past_first sp (v ∷ vs) g m some e =
-    let rest : List pushes.Byte = bytes_from 3 (minus sp 4 + 1) (v / 256) ++ pushed_bytes (minus sp 4) vs in
+    let rest : List pushes.PushedByte = bytes_from 3 (minus sp 4 + 1) (v / 256) ++ pushed_bytes (minus sp 4) vs in
     ap (λ a. with_home (v % 256) (walk_of g a m Write) (walked g m rest)) (first_address sp) ∙ ap (λ x. with_home (v % 256) x (walked g m rest)) (sym e)

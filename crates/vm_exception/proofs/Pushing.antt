@@ -11,7 +11,7 @@ use Rattle.vm_state.specs.State.{Guest}
 use Rattle.vm_state.specs.Translation.{walk_of}
 use Rattle.vm_state.specs.declared.walk.Walk.TheVariants as walks
 use Rattle.vm_state.specs.declared.walk.MemFault.{MemFault}
-use Rattle.vm_exception.specs.declared.pushes.Byte.{Byte}
+use Rattle.vm_exception.specs.declared.pushes.PushedByte.{PushedByte}
 use Rattle.vm_exception.specs.declared.pushes.Home.{Home}
 use Rattle.vm_exception.specs.Pushed.{byte_of, home_in, home_of}
 
@@ -25,7 +25,7 @@ pointer_more sp [] x = refl
 pointer_more sp (y ∷ ys) x = pointer_more (minus sp 4) ys x
 
 -- what has been pushed so far
-pub record Pushing (sp : ℕ) (longs : List ℕ) (n at : ℕ) (bytes : List Byte) : Type 0 where
+pub record Pushing (sp : ℕ) (longs : List ℕ) (n at : ℕ) (bytes : List PushedByte) : Type 0 where
   pub bytes_are : map byte_of bytes ≡ pushed_bytes sp (take n longs)
   pub pointer : at ≡ pointer_after sp (take n longs)
   pub size : length bytes ≡ 4 * n
@@ -33,7 +33,7 @@ pub record Pushing (sp : ℕ) (longs : List ℕ) (n at : ℕ) (bytes : List Byte
 pub pushing_none : (sp : ℕ) (longs : List ℕ) → Pushing sp longs 0 sp []
 pushing_none sp longs = record { bytes_are = refl; pointer = refl; size = refl }
 
-pub pushing_next : (sp : ℕ) (longs : List ℕ) (n at at' long : ℕ) (bytes bytes' : List Byte) → n < length longs → long ≡ get_or longs n 0 → at' ≡ minus at 4 → map byte_of bytes' ≡ map byte_of bytes ++ bytes_from 4 at' long → length bytes' ≡ length bytes + 4 → Pushing sp longs n at bytes → Pushing sp longs (n + 1) at' bytes'
+pub pushing_next : (sp : ℕ) (longs : List ℕ) (n at at' long : ℕ) (bytes bytes' : List PushedByte) → n < length longs → long ≡ get_or longs n 0 → at' ≡ minus at 4 → map byte_of bytes' ≡ map byte_of bytes ++ bytes_from 4 at' long → length bytes' ≡ length bytes + 4 → Pushing sp longs n at bytes → Pushing sp longs (n + 1) at' bytes'
 pushing_next sp longs n at at' long bytes bytes' h is next more size p =
     let all : take (n + 1) longs ≡ take n longs ++ long ∷ [] = take_more longs n 0 h ∙ ap (λ x. take n longs ++ x ∷ []) (sym is) in
     record {
@@ -57,11 +57,11 @@ onto_more hs h (Faulty f) = refl
 onto_more hs h PastMemory = refl
 
 -- so far all bytes have homes
-pub record Walking (g : Guest) (m : Mode) (bytes : List Byte) (n : ℕ) (homes : List Home) : Type 0 where
+pub record Walking (g : Guest) (m : Mode) (bytes : List PushedByte) (n : ℕ) (homes : List Home) : Type 0 where
   pub is : walked g m (map byte_of bytes) ≡ onto (map home_of homes) (walked g m (map byte_of (drop n bytes)))
   pub size : length homes ≡ n
 
-pub walking_none : (g : Guest) (m : Mode) (bytes : List Byte) → Walking g m bytes 0 []
+pub walking_none : (g : Guest) (m : Mode) (bytes : List PushedByte) → Walking g m bytes 0 []
 walking_none g m bytes = record { is = by (walked g m (map byte_of bytes)); size = refl }
   where
     by : (w : Walked) → w ≡ onto [] w
@@ -69,15 +69,15 @@ walking_none g m bytes = record { is = by (walked g m (map byte_of bytes)); size
     by (Faulty f) = refl
     by PastMemory = refl
 
-next_byte : (g : Guest) (m : Mode) (bytes : List Byte) (n : ℕ) (b : Byte) → n < length bytes → b ≡ get_or bytes n b → walked g m (map byte_of (drop n bytes)) ≡ with_home b.value (walk_of g b.at m Write) (walked g m (map byte_of (drop (n + 1) bytes)))
-next_byte g m bytes n b h is = ap (λ (x : List Byte). walked g m (map byte_of x)) (drop_more bytes n b h ∙ ap (λ (x : Byte). x ∷ drop (n + 1) bytes) (sym is))
+next_byte : (g : Guest) (m : Mode) (bytes : List PushedByte) (n : ℕ) (b : PushedByte) → n < length bytes → b ≡ get_or bytes n b → walked g m (map byte_of (drop n bytes)) ≡ with_home b.value (walk_of g b.at m Write) (walked g m (map byte_of (drop (n + 1) bytes)))
+next_byte g m bytes n b h is = ap (λ (x : List PushedByte). walked g m (map byte_of x)) (drop_more bytes n b h ∙ ap (λ (x : PushedByte). x ∷ drop (n + 1) bytes) (sym is))
 
 framed : (v pa : ℕ) (entry table : Option ℕ) (w : Walked) → with_home v (walks.Frame pa entry table) w ≡ onto ((record { place = pa; entry = entry; value = v }) ∷ []) w
 framed v pa entry table (Homes ks) = refl
 framed v pa entry table (Faulty f) = refl
 framed v pa entry table PastMemory = refl
 
-pub walking_next : (g : Guest) (m : Mode) (bytes : List Byte) (n pa : ℕ) (entry table : Option ℕ) (b : Byte) (homes : List Home) → n < length bytes → b ≡ get_or bytes n b → walks.Frame pa entry table ≡ walk_of g b.at m Write → Walking g m bytes n homes → Walking g m bytes (n + 1) (homes ++ (record { place = pa; entry = entry; value = b.value }) ∷ [])
+pub walking_next : (g : Guest) (m : Mode) (bytes : List PushedByte) (n pa : ℕ) (entry table : Option ℕ) (b : PushedByte) (homes : List Home) → n < length bytes → b ≡ get_or bytes n b → walks.Frame pa entry table ≡ walk_of g b.at m Write → Walking g m bytes n homes → Walking g m bytes (n + 1) (homes ++ (record { place = pa; entry = entry; value = b.value }) ∷ [])
 walking_next g m bytes n pa entry table b homes h is found w =
     let home : Home = record { place = pa; entry = entry; value = b.value } in
     record {
@@ -86,17 +86,17 @@ walking_next g m bytes n pa entry table b homes h is found w =
       size = Rattle.std.proofs.lemmas.List.length-append homes (home ∷ []) ∙ ap (λ x. x + 1) w.size;
     }
 
-pub walking_faulty : (g : Guest) (m : Mode) (bytes : List Byte) (n : ℕ) (f : MemFault) (b : Byte) (homes : List Home) → n < length bytes → b ≡ get_or bytes n b → walks.Fault f ≡ walk_of g b.at m Write → Walking g m bytes n homes → Faulty f ≡ walked g m (map byte_of bytes)
+pub walking_faulty : (g : Guest) (m : Mode) (bytes : List PushedByte) (n : ℕ) (f : MemFault) (b : PushedByte) (homes : List Home) → n < length bytes → b ≡ get_or bytes n b → walks.Fault f ≡ walk_of g b.at m Write → Walking g m bytes n homes → Faulty f ≡ walked g m (map byte_of bytes)
 walking_faulty g m bytes n f b homes h is found w = sym (w.is ∙ ap (onto (map home_of homes)) (next_byte g m bytes n b h is ∙ ap (λ x. with_home b.value x (walked g m (map byte_of (drop (n + 1) bytes)))) (sym found)))
 
-pub walking_past : (g : Guest) (m : Mode) (bytes : List Byte) (n : ℕ) (b : Byte) (homes : List Home) → n < length bytes → b ≡ get_or bytes n b → walks.Beyond ≡ walk_of g b.at m Write → Walking g m bytes n homes → PastMemory ≡ walked g m (map byte_of bytes)
+pub walking_past : (g : Guest) (m : Mode) (bytes : List PushedByte) (n : ℕ) (b : PushedByte) (homes : List Home) → n < length bytes → b ≡ get_or bytes n b → walks.Beyond ≡ walk_of g b.at m Write → Walking g m bytes n homes → PastMemory ≡ walked g m (map byte_of bytes)
 walking_past g m bytes n b homes h is found w = sym (w.is ∙ ap (onto (map home_of homes)) (next_byte g m bytes n b h is ∙ ap (λ x. with_home b.value x (walked g m (map byte_of (drop (n + 1) bytes)))) (sym found)))
 
-pub walking_all : (g : Guest) (m : Mode) (bytes : List Byte) (n : ℕ) (homes : List Home) → length bytes ≤ n → Walking g m bytes n homes → Homes (map home_of homes) ≡ walked g m (map byte_of bytes)
-walking_all g m bytes n homes h w = sym (w.is ∙ ap (λ (x : List Byte). onto (map home_of homes) (walked g m (map byte_of x))) (Rattle.std.proofs.lemmas.List.drop_all n bytes h) ∙ ap Homes (append-nil (map home_of homes)))
+pub walking_all : (g : Guest) (m : Mode) (bytes : List PushedByte) (n : ℕ) (homes : List Home) → length bytes ≤ n → Walking g m bytes n homes → Homes (map home_of homes) ≡ walked g m (map byte_of bytes)
+walking_all g m bytes n homes h w = sym (w.is ∙ ap (λ (x : List PushedByte). onto (map home_of homes) (walked g m (map byte_of x))) (Rattle.std.proofs.lemmas.List.drop_all n bytes h) ∙ ap Homes (append-nil (map home_of homes)))
 
 -- four bytes pushed one after another
-pub pushed_four : (old p1 p2 p3 p4 : List Byte) (x0 x1 x2 x3 : Byte) (bs : List ℕ) (at long : ℕ) → at < 2 ^ 32 → bs ≡ to_le_bytes w32 long → p1 ≡ old ++ x0 ∷ [] → p2 ≡ p1 ++ x1 ∷ [] → p3 ≡ p2 ++ x2 ∷ [] → p4 ≡ p3 ++ x3 ∷ [] →
+pub pushed_four : (old p1 p2 p3 p4 : List PushedByte) (x0 x1 x2 x3 : PushedByte) (bs : List ℕ) (at long : ℕ) → at < 2 ^ 32 → bs ≡ to_le_bytes w32 long → p1 ≡ old ++ x0 ∷ [] → p2 ≡ p1 ++ x1 ∷ [] → p3 ≡ p2 ++ x2 ∷ [] → p4 ≡ p3 ++ x3 ∷ [] →
     x0 ≡ record { at = at; value = get_or bs 0 0 } → x1 ≡ record { at = (at + 1) % 2 ^ 32; value = get_or bs 1 0 } → x2 ≡ record { at = (at + 2) % 2 ^ 32; value = get_or bs 2 0 } → x3 ≡ record { at = (at + 3) % 2 ^ 32; value = get_or bs 3 0 } →
     map byte_of p4 ≡ map byte_of old ++ bytes_from 4 at long
 pushed_four old p1 p2 p3 p4 x0 x1 x2 x3 bs at long small is e1 e2 e3 e4 b0 b1 b2 b3 =

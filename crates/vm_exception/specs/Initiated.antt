@@ -6,7 +6,7 @@ use Rattle.vm_exception.specs.declared.initiated.Initiated.{Initiated}
 use Rattle.vm_exception.specs.declared.initiated.Initiated.TheVariants as outcomes
 use Rattle.vm_shadow.specs.Shadowed.{Shadowed}
 use Rattle.vm_shadow.specs.StandsFor.{OnlyGuest, StandsFor}
-use Rattle.vm_state.specs.Initiate.{Initiation, KernelStackBad, Stops, Taken, initiate}
+use Rattle.vm_state.specs.Initiate.{Initiation, KernelStackBad, StopsGuest, Taken, initiate}
 use Rattle.vm_state.specs.Partition.{guest_of}
 use Rattle.vm_state.specs.State.{Guest, HasPlace, state_of}
 use Rattle.vm_state.specs.Stops.{stop_code}
@@ -29,7 +29,7 @@ pub record StopsWith (code : ℕ) (m : Machine) (s : Shadowed) (g : GuestState) 
 abbrev pub IsInitiated : Initiation → Initiated → Machine → Shadowed → GuestState → Machine → Shadowed → GuestState → Type 0
 IsInitiated (Taken h frames) outcomes.Taken m s g m' s' g' = InitiatesTo h frames s m' s' g'
 IsInitiated (KernelStackBad h frames) outcomes.KernelStackBad m s g m' s' g' = InitiatesTo h frames s m' s' g'
-IsInitiated (Stops stop) (outcomes.Stopped code) m s g m' s' g' = (code ≡ stop_code stop) × StopsWith code m s g m' s' g'
+IsInitiated (StopsGuest stop) (outcomes.Stopped code) m s g m' s' g' = (code ≡ stop_code stop) × StopsWith code m s g m' s' g'
 IsInitiated _ _ m s g m' s' g' = ⊥
 
 -- an interrupt's level is one of the 32, and its vector is in the first 512 bytes of the system control block

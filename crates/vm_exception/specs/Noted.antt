@@ -10,7 +10,7 @@ use Rattle.vm_exception.specs.declared.note.Note.{Note}
 use Rattle.vm_exception.specs.declared.note.Note.TheVariants.{Nothing, Vector, Page}
 use Rattle.vm_exception.specs.declared.initiated.Initiated.{Initiated}
 use Rattle.vm_exception.specs.declared.initiated.Initiated.TheVariants as outcomes
-use Rattle.vm_state.specs.Initiate.{Initiation, KernelStackBad, Stops, Taken, initiate, vector_offset}
+use Rattle.vm_state.specs.Initiate.{Initiation, KernelStackBad, StopsGuest, Taken, initiate, vector_offset}
 use Rattle.vm_state.specs.Interrupts.{Source, due, interrupt_of}
 use Rattle.vm_state.specs.Probe.{Answers, NotValid, Probed, probe}
 use Rattle.vm_state.specs.Probe as probes
@@ -26,7 +26,7 @@ use Rattle.vm_state.specs.declared.exception.Exc.TheVariants as excs
 abbrev pub vector_taken : Exc → Initiation → Note
 vector_taken e (Taken h written) = Vector (vector_offset e)
 vector_taken e (KernelStackBad h written) = Vector 0x08
-vector_taken e (Stops stop) = Nothing
+vector_taken e (StopsGuest stop) = Nothing
 
 -- the vector that is taken, by the code's answer
 abbrev pub noted : Initiated → (offset : ℕ) → Note

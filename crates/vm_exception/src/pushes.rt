@@ -14,7 +14,7 @@ use vm_walk::walk;
 
 /// A byte that is pushed, for an address.
 #[derive(Clone, Copy, Debug, Default, PartialEq, Eq)]
-pub struct Byte {
+pub struct PushedByte {
     pub at: u32,
     pub value: u8,
 }
@@ -37,29 +37,29 @@ pub enum Walked {
 }
 
 /// The four bytes of a longword at an address, after others.
-fn push_long(bytes: &mut ArrayVec<Byte, 16>, at: u32, long: u32)
+fn push_long(bytes: &mut ArrayVec<PushedByte, 16>, at: u32, long: u32)
     requires { length bytes.old.items ≤ 12 }
     ensures bytes { map byte_of bytes.new.items ≡ map byte_of bytes.old.items ++ bytes_from 4 at long }
     ensures size { length bytes.new.items ≡ length bytes.old.items + 4 }
 {
     let [first, second, third, fourth] = long.to_le_bytes();
-    bytes.push(Byte { at, value: first });
-    bytes.push(Byte {
+    bytes.push(PushedByte { at, value: first });
+    bytes.push(PushedByte {
         at: at.wrapping_add(1),
         value: second,
     });
-    bytes.push(Byte {
+    bytes.push(PushedByte {
         at: at.wrapping_add(2),
         value: third,
     });
-    bytes.push(Byte {
+    bytes.push(PushedByte {
         at: at.wrapping_add(3),
         value: fourth,
     });
 }
 
 /// The bytes of longwords that are pushed from a stack pointer on, in the order in which they are walked.
-fn pushed_bytes(sp: u32, longs: &[u32]) -> ArrayVec<Byte, 16>
+fn pushed_bytes(sp: u32, longs: &[u32]) -> ArrayVec<PushedByte, 16>
     requires { length longs.now ≤ 4 }
     ensures { map byte_of result.items ≡ pushed_bytes sp longs.now }
 {
@@ -97,7 +97,7 @@ fn walk_beside<H: Hardware>(
 }
 
 /// The walk of bytes for writing, in a mode: one for those that come one after another in a page.
-fn walk_bytes<H: Hardware>(machine: &H, g: &GuestState, m: Mode, bytes: &[Byte]) -> Walked
+fn walk_bytes<H: Hardware>(machine: &H, g: &GuestState, m: Mode, bytes: &[PushedByte]) -> Walked
     requires partition { 512 * (g.now.base + g.now.pages) ≤ length (H.machine machine.now).memory }
     requires few { length bytes.now ≤ 16 }
     ensures { walked_of result ≡ walked (guest_of (H.machine machine.now).memory g.now) m (map byte_of bytes.now) }

@@ -5,5 +5,5 @@ mod read;
 mod write;
 
 pub use read::{is_readable, mfpr};
-pub use vm_state::{Effect, ReservedOperand};
+pub use vm_state::{RegisterEffect, ReservedOperand};
 pub use write::mtpr;

@@ -4,7 +4,7 @@ ghost use Rattle.vm_state.specs.State.{HasPlace, state_of};
 ghost use Rattle.vm_ipr.specs.Outcomes.{WritesRegister};
 
 use vax_arch::Psl;
-use vm_state::{Effect, GuestState, Register, ReservedOperand, set_pointer};
+use vm_state::{RegisterEffect, GuestState, Register, ReservedOperand, set_pointer};
 
 /// Whether a register may be written, and allows the value.
 fn allows(register: Register, v: u32) -> bool
@@ -28,7 +28,7 @@ fn allows(register: Register, v: u32) -> bool
 }
 
 /// What a write asks for beside the register.
-fn effect_of(register: Register, v: u32) -> Effect
+fn effect_of(register: Register, v: u32) -> RegisterEffect
     ensures { result ≡ (register_row register).effect v }
 {
     match register {
@@ -38,10 +38,10 @@ fn effect_of(register: Register, v: u32) -> Effect
         | Register::P1lr
         | Register::Sbr
         | Register::Slr
-        | Register::Mapen => Effect::Remap,
-        Register::Txdb => Effect::Show((v % 256) as u8),
-        Register::Kcall => Effect::Kcall(v),
-        _ => Effect::Done,
+        | Register::Mapen => RegisterEffect::Remap,
+        Register::Txdb => RegisterEffect::Show((v % 256) as u8),
+        Register::Kcall => RegisterEffect::Kcall(v),
+        _ => RegisterEffect::Done,
     }
 }
 
@@ -106,7 +106,7 @@ fn write(g: &mut GuestState, register: Register, v: u32)
 /// `Show` with the low byte exactly for TXDB, `Kcall` with the value exactly for KCALL, which queues nothing itself, `Remap`
 /// exactly for the registers of page tables and MAPEN, and `Done` for all others.
 #[tactic(auto, unfolding(vm_state::specs::Registers::written))]
-pub fn mtpr(g: &mut GuestState, number: u32, v: u32) -> Result<Effect, ReservedOperand>
+pub fn mtpr(g: &mut GuestState, number: u32, v: u32) -> Result<RegisterEffect, ReservedOperand>
     ensures writes { WritesRegister g.old g.new number v result }
     ensures place { HasPlace g.old.pages g.old.base g.old.start g.new }
 {

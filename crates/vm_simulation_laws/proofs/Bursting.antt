@@ -28,7 +28,7 @@ use Rattle.vm_simulation_laws.specs.Laws.{IsRetired, IsUnfilled, Meets, frames_c
 use Rattle.vm_simulation_laws.specs.Loaded.{HasGuestLoaded, OnlyPartition, RunsGuest, as_run, guest_try}
 use Rattle.vm_simulation_laws.proofs.Meeting.{exits_meet}
 use Rattle.vm_simulation_laws.proofs.Retiring.{retires}
-use Rattle.vm_state.specs.Initiate.{Initiation, KernelStackBad, Stops, Taken, initiate}
+use Rattle.vm_state.specs.Initiate.{Initiation, KernelStackBad, StopsGuest, Taken, initiate}
 use Rattle.vm_state.specs.Interrupts.{IntervalClock, Kcall, Receiver, Software, Source, Transmitter, due, source_row, sources}
 use Rattle.vm_state.specs.Partition.{guest_of, partition_of}
 use Rattle.vm_state.specs.Run.{Run, after_step, after_steps}
@@ -101,7 +101,7 @@ one_plain m s g x r run none e =
 trap_by : (run : Run) (h : Guest) (term kind : ℕ) (written : List ℕ) (i : Initiation) → i ≡ initiate h (excs.Arithmetic kind) → after_step run (initiated_in (steps.Plain term) h i) ≡ record (with_plain_steps run h 1 term) { guest = (initiated_in steps.Idle h i).guest; shown = run.shown ++ (initiated_in steps.Idle h i).shown }
 trap_by run h term kind written (Taken x w) e = refl
 trap_by run h term kind written (KernelStackBad x w) e = refl
-trap_by run h term kind written (Stops stop) e = refl
+trap_by run h term kind written (StopsGuest stop) e = refl
 
 one_trap : (m : Machine) (s : Shadowed) (g : GuestState) (x : Retired) (r : IsRetired [] m s g x) (kind : ℕ) (run : Run) → x.trap ≡ Some kind → run.guest ≡ guest_of m.memory g → after_step run (executed run.guest) ≡ with_trap kind (with_plain_steps run (guest_of x.machine.memory (as_run x.machine.world g)) 1 r.term)
 one_trap m s g x r kind run some e =

@@ -8,7 +8,7 @@ use Rattle.vax_arch.specs.Fields.{ipl_of, mode_number}
 use Rattle.vax_arch.specs.Walk.{is_past}
 use Rattle.vax_arch.specs.declared.mode.Mode.{Mode}
 use Rattle.vax_arch.specs.declared.mode.Mode.TheVariants.{Executive, Kernel, Supervisor, User}
-use Rattle.vm_state.specs.Initiate.{Arrives, Attempt, Halts, Initiation, KernelStackBad, StackFaulty, Stops, Taken, after_walk, attempt, begun_at, by_vector, in_its_place, initiate, initiated, is_bad_vector, longwords, new_ipl, new_mode, new_previous, new_stack, uses_interrupt_stack, vector_offset}
+use Rattle.vm_state.specs.Initiate.{Arrives, Attempt, Halts, Initiation, KernelStackBad, StackFaulty, StopsGuest, Taken, after_walk, attempt, begun_at, by_vector, in_its_place, initiate, initiated, is_bad_vector, longwords, new_ipl, new_mode, new_previous, new_stack, uses_interrupt_stack, vector_offset}
 use Rattle.vm_state.specs.Pushes.{Faulty, Homes, PastMemory, Walked, pointer_after, push_walked}
 use Rattle.vm_state.specs.State.{Guest, State, pointer_of}
 use Rattle.vm_state.specs.Stops.{BadVector}
@@ -101,7 +101,7 @@ attempt_keeps g e h =
 abbrev pub Initiates : Guest → Initiation → Type 0
 Initiates g (Taken h written) = Began g h
 Initiates g (KernelStackBad h written) = Began g h
-Initiates g (Stops stop) = Unit {0}
+Initiates g (StopsGuest stop) = Unit {0}
 
 place_keeps : (g : Guest) (a : Attempt) → Attempted g a → Initiates g (in_its_place a)
 place_keeps g (Arrives h written) k = k

@@ -19,7 +19,7 @@ use Rattle.vax_table.specs.declared.act.Trapped.{Trapped}
 use Rattle.vax_table.specs.declared.answer.AluOp.TheVariants.{Move}
 use Rattle.vm_state.specs.Allowed.{Allows, AreAllowed, IsPacket}
 use Rattle.vm_state.specs.Contexts.{Popped, after_pops, after_push, after_reads, is_block_past, is_block_reserved, loaded, loaded_astlvl, loaded_tables, loads_context, on_interrupt, on_interrupt_stack, saved, saved_longs, saves_context, two_popped}
-use Rattle.vm_state.specs.Initiate.{Initiation, KernelStackBad, Stops, Taken, initiate, new_mode}
+use Rattle.vm_state.specs.Initiate.{Initiation, KernelStackBad, StopsGuest, Taken, initiate, new_mode}
 use Rattle.vm_state.specs.Packets.{accepted, busy_status, status_place}
 use Rattle.vm_state.specs.Pushes.{Faulty, Homes, PastMemory, Walked, push_walked}
 use Rattle.vm_state.specs.Registers.{Value, Written, written}
@@ -29,8 +29,8 @@ use Rattle.vm_state.specs.State.{Guest, State, mode_of_state, pointer_of}
 use Rattle.vm_state.specs.Stops.{ChangedMode}
 use Rattle.vm_state.specs.Translation.{guest_write_place, is_clear, space_of, walk_of}
 use Rattle.vm_state.specs.declared.exception.Exc.TheVariants as excs
-use Rattle.vm_state.specs.declared.register.Effect.{Effect}
-use Rattle.vm_state.specs.declared.register.Effect.TheVariants as effects
+use Rattle.vm_state.specs.declared.register.RegisterEffect.{RegisterEffect}
+use Rattle.vm_state.specs.declared.register.RegisterEffect.TheVariants as effects
 use Rattle.vm_state.specs.declared.register.Register.TheVariants.{Astlvl, P0br, P0lr, P1br, P1lr, Sisr}
 use Rattle.vm_state.specs.declared.register.ReservedOperand.{ReservedOperand}
 use Rattle.vm_state.specs.declared.transfer.Accept.{Accept}
@@ -78,7 +78,7 @@ codes_keep size v s = moved size s (with_codes v s) refl refl refl refl refl ref
 -- troubles
 refusal_fits : (r : Refusal) → LevelFits (refused_as r)
 refusal_fits refusals.Instruction = tt
-refusal_fits refusals.Operand = tt
+refusal_fits refusals.ReservedOperand = tt
 refusal_fits refusals.Addressing = tt
 refusal_fits refusals.Customer = tt
 refusal_fits refusals.Breakpoint = tt
@@ -102,7 +102,7 @@ wait_sensible g t = (with_state g _ (moved (length g.memory) g.state _ refl refl
 changed_sensible : (g h : Guest) (i : Initiation) → Holds g h → Initiates h i → Sensible g (mode_changed i)
 changed_sensible g h (Taken k written) a b = (holds_then g h k a b.holds, none_shown)
 changed_sensible g h (KernelStackBad k written) a b = (holds_then g h k a b.holds, none_shown)
-changed_sensible g h (Stops stop) a b = tt
+changed_sensible g h (StopsGuest stop) a b = tt
 
 walked_sensible : (g h : Guest) (i : Initiation) (w : Walked) → Holds g h → Initiates h i → Sensible g (chm_walked i w)
 walked_sensible g h i (Homes hs) a b = changed_sensible g h i a b
@@ -215,7 +215,7 @@ taken_sensible g s packet BadPacket k f = tt
 taken_sensible g s packet Busy k f = (record { size = long_size (status_place packet) busy_status g.memory; keeps = k }, none_shown)
 taken_sensible g s packet Queued k f = (with_state g _ (chained (length g.memory) g.state s _ k (queue_keeps (length g.memory) s packet f.0 f.1)), none_shown)
 
-effect_sensible : (g : Guest) (s : State) (e : Effect) → Keeps (length g.memory) g.state s → Sensible g (with_register_effect g s e)
+effect_sensible : (g : Guest) (s : State) (e : RegisterEffect) → Keeps (length g.memory) g.state s → Sensible g (with_register_effect g s e)
 effect_sensible g s effects.Done k = (with_state g s k, none_shown)
 effect_sensible g s effects.Remap k = (with_state g s k, none_shown)
 effect_sensible g s (effects.Show byte) k = (with_state g s k, omega arith)

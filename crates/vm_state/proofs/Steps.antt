@@ -12,7 +12,7 @@ use Rattle.vax_table.specs.Tries as tries
 use Rattle.vax_table.specs.Whole.{Act, Meant, Probes, Traps}
 use Rattle.vax_table.specs.Whole as whole
 use Rattle.vax_table.specs.declared.evaluation.Operands.{Operands}
-use Rattle.vm_state.specs.Initiate.{Initiation, KernelStackBad, Stops, Taken, initiate}
+use Rattle.vm_state.specs.Initiate.{Initiation, KernelStackBad, StopsGuest, Taken, initiate}
 use Rattle.vm_state.specs.Interrupts.{IntervalClock, Kcall, Receiver, Software, Source, Transmitter, due, interrupt_of, source_row, sources}
 use Rattle.vm_state.specs.Laws.{ShowsFew, StaysStopped, StepKeeps, StepsCount, StepsKeep}
 use Rattle.vm_state.specs.Probe.{Answers, NotValid, Probed, probe}
@@ -56,7 +56,7 @@ stop_fine g h stop kind k = record {
 initiated_fine : (kind : Kind) (g h : Guest) (i : Initiation) → Holds g h → Initiates h i → IsFine g (initiated_in kind h i)
 initiated_fine kind g h (Taken k written) a b = silent g k kind written (holds_then g h k a b.holds)
 initiated_fine kind g h (KernelStackBad k written) a b = silent g k kind written (holds_then g h k a b.holds)
-initiated_fine kind g h (Stops stop) a b = stop_fine g h stop kind a
+initiated_fine kind g h (StopsGuest stop) a b = stop_fine g h stop kind a
 
 fault_fine : (g : Guest) (e : Exc) → LevelFits e → IsFine g (faulted g e)
 fault_fine g e h = initiated_fine Fault g g (initiate g e) (holds_same g) (initiate_keeps g e h)
@@ -166,7 +166,7 @@ taken_keeps size (Software level) s t h r e =
 interrupt_fine : (g : Guest) (x : Source) (i : Initiation) → HasLevel x → (source_row x).requests g.state ≡ true → Initiates g i → IsFine g (interrupted g x i)
 interrupt_fine g x (Taken h written) l r k = silent g _ Interrupt written (holds_then g h _ k.holds (with_state h _ (taken_keeps (length h.memory) x g.state h.state l r k.sisr)))
 interrupt_fine g x (KernelStackBad h written) l r k = silent g h Interrupt written k.holds
-interrupt_fine g x (Stops stop) l r k = stop_fine g g stop Interrupt (holds_same g)
+interrupt_fine g x (StopsGuest stop) l r k = stop_fine g g stop Interrupt (holds_same g)
 
 waiting_fine : (g : Guest) (b : Bool) → IsFine g (unless_waiting g b)
 waiting_fine g true = silent g g _ [] (holds_same g)

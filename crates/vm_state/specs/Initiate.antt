@@ -107,19 +107,19 @@ attempt g e =
 pub data Initiation : Type 0 where
   Taken : Guest → (written : List ℕ) → Initiation
   KernelStackBad : Guest → (written : List ℕ) → Initiation
-  Stops : Stop → Initiation
+  StopsGuest : Stop → Initiation
 
 -- in the place of another
 abbrev pub in_its_place : Attempt → Initiation
 in_its_place (Arrives g written) = KernelStackBad g written
-in_its_place (StackFaulty is_interrupt_stack) = Stops InterruptStackBad
-in_its_place (Halts stop) = Stops stop
+in_its_place (StackFaulty is_interrupt_stack) = StopsGuest InterruptStackBad
+in_its_place (Halts stop) = StopsGuest stop
 
 abbrev pub initiated : Guest → Attempt → Initiation
 initiated g (Arrives h written) = Taken h written
-initiated g (StackFaulty true) = Stops InterruptStackBad
+initiated g (StackFaulty true) = StopsGuest InterruptStackBad
 initiated g (StackFaulty false) = in_its_place (attempt g KernelStack)
-initiated g (Halts stop) = Stops stop
+initiated g (Halts stop) = StopsGuest stop
 
 -- The PC that is pushed is the guest's.
 unfoldable pub initiate : Guest → Exc → Initiation

@@ -14,17 +14,17 @@ use Rattle.vm_state.specs.declared.walk.Walk.{Walk}
 use Rattle.vm_state.specs.declared.walk.Walk.TheVariants as walks
 
 -- a byte for an address
-pub record Byte : Type 0 where
+pub record PushedByte : Type 0 where
   pub at : ℕ
   pub value : ℕ
 
 -- k bytes of a number from an address up, the lowest first
-abbrev pub bytes_from : ℕ → ℕ → ℕ → List Byte
+abbrev pub bytes_from : ℕ → ℕ → ℕ → List PushedByte
 bytes_from zero at v = []
 bytes_from (suc k) at v = record { at = at % 2 ^ 32; value = v % 256 } ∷ bytes_from k (at + 1) (v / 256)
 
 -- the bytes of longwords that are pushed from a stack pointer on, in the order in which they are walked
-abbrev pub pushed_bytes : ℕ → List ℕ → List Byte
+abbrev pub pushed_bytes : ℕ → List ℕ → List PushedByte
 pushed_bytes sp [] = []
 pushed_bytes sp (v ∷ vs) = bytes_from 4 (minus sp 4) v ++ pushed_bytes (minus sp 4) vs
 
@@ -51,7 +51,7 @@ with_home v (walks.Frame pa entry table) trouble = trouble
 with_home v (walks.Fault f) rest = Faulty f
 with_home v walks.Beyond rest = PastMemory
 
-abbrev pub walked : Guest → Mode → List Byte → Walked
+abbrev pub walked : Guest → Mode → List PushedByte → Walked
 walked g m [] = Homes []
 walked g m (b ∷ bs) = with_home b.value (walk_of g b.at m Write) (walked g m bs)
 

@@ -6,8 +6,8 @@ use Rattle.vax_arch.specs.Walk.{Tables}
 use Rattle.vm_clock.specs.Clock.{after_iccs_write, after_nicr_write, iccs_of}
 use Rattle.vm_console.specs.Console.{after_rxcs_write, after_rxdb_read, after_sent, after_txcs_write, rxcs_of, rxdb_of, txcs_of}
 use Rattle.vm_state.specs.State.{State, pointer_of, stack_in}
-use Rattle.vm_state.specs.declared.register.Effect.{Effect}
-use Rattle.vm_state.specs.declared.register.Effect.TheVariants as effects
+use Rattle.vm_state.specs.declared.register.RegisterEffect.{RegisterEffect}
+use Rattle.vm_state.specs.declared.register.RegisterEffect.TheVariants as effects
 use Rattle.vm_state.specs.declared.register.Register.{Register}
 use Rattle.vm_state.specs.declared.register.Register.TheVariants.{Ksp, Esp, Ssp, Usp, Isp, P0br, P0lr, P1br, P1lr, Sbr, Slr, Pcbb, Scbb, Ipl, Astlvl, Sirr, Sisr, Iccs, Nicr, Icr, Rxcs, Rxdb, Txcs, Txdb, Mapen, Tbia, Tbis, Sid, Kcall, Memsize, Uptime}
 use Rattle.vm_state.specs.declared.register.ReservedOperand.{ReservedOperand}
@@ -19,7 +19,7 @@ pub record RegisterRow : Type 0 where
   pub number : ℕ
   pub allowed : ℕ → Bool
   pub after_write : ℕ → State → State
-  pub effect : ℕ → Effect
+  pub effect : ℕ → RegisterEffect
   pub value : (size : ℕ) → State → Option ℕ
 
 -- any value is allowed
@@ -33,7 +33,7 @@ read_and_written n allowed after value = record { number = n; allowed = allowed;
 abbrev pub of_tables : ℕ → (ℕ → Bool) → (ℕ → Tables → Tables) → (Tables → ℕ) → RegisterRow
 of_tables n allowed after value = record (read_and_written n allowed (λ v s. record s { tables = after v s.tables }) (λ s. value s.tables)) { effect = λ v. effects.Remap }
 
-abbrev pub write_only : ℕ → (ℕ → Bool) → (ℕ → State → State) → (ℕ → Effect) → RegisterRow
+abbrev pub write_only : ℕ → (ℕ → Bool) → (ℕ → State → State) → (ℕ → RegisterEffect) → RegisterRow
 write_only n allowed after effect = record { number = n; allowed = allowed; after_write = after; effect = effect; value = λ size s. None }
 
 abbrev pub read_only : ℕ → (ℕ → State → ℕ) → RegisterRow
@@ -110,7 +110,7 @@ allows register v = (register_row register).allowed v
 -- a write, or why it is refused
 pub record Written : Type 0 where
   pub state : State
-  pub effect : Effect
+  pub effect : RegisterEffect
 
 abbrev pub write_by : State → ℕ → Option Register → Result Written ReservedOperand
 write_by s v None = Err (record {})

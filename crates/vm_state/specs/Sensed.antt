@@ -28,7 +28,7 @@ fault_of walk = LacksMemory
 
 abbrev pub refused_as : Refusal → Exc
 refused_as refusals.Instruction = excs.ReservedInstruction
-refused_as refusals.Operand = excs.ReservedOperand
+refused_as refusals.ReservedOperand = excs.ReservedOperand
 refused_as refusals.Addressing = excs.ReservedAddressing
 refused_as refusals.Customer = excs.Customer
 refused_as refusals.Breakpoint = excs.Breakpoint

@@ -20,7 +20,7 @@ use Rattle.vax_table.specs.declared.act.Sens.TheVariants.{Chm, Halt, Ldpctx, Mfp
 use Rattle.vax_table.specs.declared.act.Trapped.{Trapped}
 use Rattle.vax_table.specs.declared.answer.AluOp.TheVariants.{Move}
 use Rattle.vm_state.specs.Contexts.{Popped, loads_context, saves_context, two_popped}
-use Rattle.vm_state.specs.Initiate.{Initiation, KernelStackBad, Stops, Taken, initiate, new_mode}
+use Rattle.vm_state.specs.Initiate.{Initiation, KernelStackBad, StopsGuest, Taken, initiate, new_mode}
 use Rattle.vm_state.specs.Packets.{accepted, after_accept, busy_status, status_place}
 use Rattle.vm_state.specs.Pushes.{Faulty, Homes, PastMemory, Walked, push_walked}
 use Rattle.vm_state.specs.Registers.{Value, Written, read, written}
@@ -29,8 +29,8 @@ use Rattle.vm_state.specs.State.{Guest, State, pointer_of, stack_in, with_pointe
 use Rattle.vm_state.specs.Stops.{ChangedMode, Halted, Stop, stop_code, stop_text}
 use Rattle.vm_state.specs.Translation.{frame_at, guest_write_place, is_clear, long_stored, space_of}
 use Rattle.vm_state.specs.declared.exception.Exc.TheVariants as excs
-use Rattle.vm_state.specs.declared.register.Effect.{Effect}
-use Rattle.vm_state.specs.declared.register.Effect.TheVariants as effects
+use Rattle.vm_state.specs.declared.register.RegisterEffect.{RegisterEffect}
+use Rattle.vm_state.specs.declared.register.RegisterEffect.TheVariants as effects
 use Rattle.vm_state.specs.declared.register.ReservedOperand.{ReservedOperand}
 use Rattle.vm_state.specs.declared.transfer.Accept.{Accept}
 use Rattle.vm_state.specs.declared.transfer.Accept.TheVariants.{BadPacket, Busy, Queued}
@@ -64,7 +64,7 @@ waited g t = let h = guest_past_instruction g t in Does (record h { state = reco
 abbrev pub mode_changed : Initiation → Sensed
 mode_changed (Taken h written) = Does h [] written
 mode_changed (KernelStackBad h written) = Does h [] written
-mode_changed (Stops stop) = StopsThere stop
+mode_changed (StopsGuest stop) = StopsThere stop
 
 -- It is initiated where its push was walked without trouble; a fault of that walk is CHM's own, before it does anything.
 abbrev pub chm_walked : Initiation → Walked → Sensed
@@ -117,7 +117,7 @@ packet_taken g s packet Busy =
     Does (record { memory = long_stored (status_place packet) busy_status g.memory; state = s }) [] (frame_at (status_place packet) ∷ [])
 packet_taken g s packet Queued = Does (record g { state = after_accept Queued packet s }) [] []
 
-abbrev pub with_register_effect : Guest → State → Effect → Sensed
+abbrev pub with_register_effect : Guest → State → RegisterEffect → Sensed
 with_register_effect g s (effects.Show byte) = Does (record g { state = s }) (byte ∷ []) []
 with_register_effect g s (effects.Kcall packet) = packet_taken g s packet (accepted (length g.memory) s packet)
 with_register_effect g s effect = Does (record g { state = s }) [] []

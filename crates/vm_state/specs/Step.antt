@@ -17,7 +17,7 @@ use Rattle.vax_table.specs.Whole as whole
 use Rattle.vax_table.specs.declared.effect.Store.{Store}
 use Rattle.vax_table.specs.declared.evaluation.Operands.{Operands}
 use Rattle.vm_clock.specs.Clock.{after_tick}
-use Rattle.vm_state.specs.Initiate.{Initiation, KernelStackBad, Stops, Taken, initiate}
+use Rattle.vm_state.specs.Initiate.{Initiation, KernelStackBad, StopsGuest, Taken, initiate}
 use Rattle.vm_state.specs.Interrupts.{Source, due, interrupt_of, source_row}
 use Rattle.vm_state.specs.Probe.{Answers, NotValid, Probed, probe}
 use Rattle.vm_state.specs.Probe as probes
@@ -61,7 +61,7 @@ stopped g stop kind = stepped (record g { state = record g.state { halt = Some (
 abbrev pub initiated_in : Kind → Guest → Initiation → Stepped
 initiated_in kind g (Taken h written) = stepped h [] kind written
 initiated_in kind g (KernelStackBad h written) = stepped h [] kind written
-initiated_in kind g (Stops stop) = stopped g stop kind
+initiated_in kind g (StopsGuest stop) = stopped g stop kind
 
 -- a fault of the instruction at PC, of which nothing happened
 abbrev pub faulted : Guest → Exc → Stepped
@@ -140,7 +140,7 @@ executed g =
 abbrev pub interrupted : Guest → Source → Initiation → Stepped
 interrupted g source (Taken h written) = stepped (record h { state = (source_row source).taken h.state }) [] Interrupt written
 interrupted g source (KernelStackBad h written) = stepped h [] Interrupt written
-interrupted g source (Stops stop) = stopped g stop Interrupt
+interrupted g source (StopsGuest stop) = stopped g stop Interrupt
 
 -- the clock counts once, and so do the guest's steps
 abbrev pub counted : State → State

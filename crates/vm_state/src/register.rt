@@ -131,7 +131,7 @@ impl Register {
 /// What a write to a processor register asks for beside the register itself: nothing, a byte to show on the console,
 /// real tables for new table registers, or a packet to queue.
 #[derive(Clone, Copy, Debug, PartialEq, Eq)]
-pub enum Effect {
+pub enum RegisterEffect {
     Done,
     Show(u8),
     Remap,

@@ -15,7 +15,7 @@ use Rattle.vm_simulation_laws.specs.Bursts.{with_plain_steps}
 use Rattle.vm_simulation_laws.specs.Laws.{Leaves, frames_claimed}
 use Rattle.vm_simulation_laws.specs.Loaded.{RunsGuest, as_run, guest_try}
 use Rattle.vm_state.specs.Allowed.{AreAllowed}
-use Rattle.vm_state.specs.Initiate.{Initiation, KernelStackBad, Stops, Taken, initiate}
+use Rattle.vm_state.specs.Initiate.{Initiation, KernelStackBad, StopsGuest, Taken, initiate}
 use Rattle.vm_state.specs.Partition.{guest_of}
 use Rattle.vm_state.specs.Run.{Run, after_step}
 use Rattle.vm_state.specs.State.{Guest, state_of}
@@ -38,7 +38,7 @@ executed_is h x e = ap (λ (y : Stepped). record y { touched = touches_now h }) 
 trap_by : (run : Run) (h : Guest) (term kind : ℕ) (i : Initiation) → i ≡ initiate h (excs.Arithmetic kind) → after_step run (initiated_in (steps.Plain term) h i) ≡ record (with_plain_steps run h 1 term) { guest = (initiated_in steps.Idle h i).guest; shown = run.shown ++ (initiated_in steps.Idle h i).shown }
 trap_by run h term kind (Taken x w) e = refl
 trap_by run h term kind (KernelStackBad x w) e = refl
-trap_by run h term kind (Stops stop) e = refl
+trap_by run h term kind (StopsGuest stop) e = refl
 
 later : (run : Run) (h : Guest) (term : ℕ) (written : List ℕ) (trap : Option ℕ) → after_step run (trapped_in (steps.Plain term) written h trap) ≡ with_trap_of trap (with_plain_steps run h 1 term)
 later run h term written None = λ i. record { guest = h; shown = append-nil run.shown i; tally = record run.tally { plain = run.tally.plain + 1; trail = (run.tally.trail + term) % 2 ^ 64 } }

@@ -10,7 +10,7 @@ use Rattle.vm_console.proofs.Composes.{Appends-nil}
 use Rattle.vm_exception.specs.Made.{MakesStep}
 use Rattle.vm_shadow.specs.Shadowed.{Shadowed}
 use Rattle.vm_shadow.specs.StandsFor.{DropsMarked, Marks, OnlyGuest, StandsFor}
-use Rattle.vm_state.specs.Initiate.{Initiation, KernelStackBad, Stops, Taken, initiate}
+use Rattle.vm_state.specs.Initiate.{Initiation, KernelStackBad, StopsGuest, Taken, initiate}
 use Rattle.vm_state.specs.Interrupts.{Source, interrupt_of}
 use Rattle.vm_state.specs.Partition.{guest_of}
 use Rattle.vm_state.specs.Run.{tallied}
@@ -54,7 +54,7 @@ made_by may x port port' m s g c m' s' g' c' k shows tally one plain trail = rec
 pub kind_in : (kind : Kind) (g : Guest) (i : Initiation) → (initiated_in kind g i).kind ≡ kind
 kind_in kind g (Taken h written) = refl
 kind_in kind g (KernelStackBad h written) = refl
-kind_in kind g (Stops stop) = refl
+kind_in kind g (StopsGuest stop) = refl
 
 module _ {Port : Type 0} (may : Port → List ℕ → Type 0) (port port' : Port) (m : Machine) (s : Shadowed) (g : GuestState) (c : Counts) (m' : Machine) (s' : Shadowed) (g' : GuestState) where
   pub made_fault : (e : Exc) → ((kind : Kind) → MakesStep (initiated_in kind (guest_of m.memory g) (initiate (guest_of m.memory g) e)) m s g m' s' g') → ((kind : Kind) → Appends may port port' (initiated_in kind (guest_of m.memory g) (initiate (guest_of m.memory g) e)).shown) → Made may (faulted (guest_of m.memory g) e) port port' m s g c m' s' g' (record c { faults = c.faults + 1 })
@@ -65,7 +65,7 @@ module _ {Port : Type 0} (may : Port → List ℕ → Type 0) (port port' : Port
   kind_taken : (source : Source) (i : Initiation) → (interrupted (guest_of m.memory g) source i).kind ≡ Interrupt
   kind_taken source (Taken h written) = refl
   kind_taken source (KernelStackBad h written) = refl
-  kind_taken source (Stops stop) = refl
+  kind_taken source (StopsGuest stop) = refl
 
   pub made_interrupt : (source : Source) → let x = interrupted (guest_of m.memory g) source (initiate (guest_of m.memory g) (interrupt_of source)) in MakesStep x m s g m' s' g' → Appends may port port' x.shown → Made may x port port' m s g c m' s' g' (record c { interrupts = c.interrupts + 1 })
   made_interrupt source makes shows =

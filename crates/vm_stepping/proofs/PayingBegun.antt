@@ -9,7 +9,7 @@ use Rattle.vm_simulation_laws.proofs.Fitting.{steps_keep}
 use Rattle.vm_simulation_laws.proofs.Paying.{nothing_owed}
 use Rattle.vm_shadow.specs.Shadowed.{Shadowed}
 use Rattle.vm_shadow.specs.StandsFor.{StandsFor}
-use Rattle.vm_state.specs.Initiate.{Initiation, KernelStackBad, Stops, Taken, initiate}
+use Rattle.vm_state.specs.Initiate.{Initiation, KernelStackBad, StopsGuest, Taken, initiate}
 use Rattle.vm_state.specs.Interrupts.{Source, due, interrupt_of}
 use Rattle.vm_state.specs.Partition.{guest_of}
 use Rattle.vm_state.specs.Run.{Run}
@@ -74,7 +74,7 @@ module _ (m : Machine) (s : Shadowed) (g : GuestState) (stands : StandsFor m.mem
 interrupt_untouched : (h : Guest) (source : Source) (i : Initiation) → (interrupted h source i).touched ≡ record { found = []; lacking = [] }
 interrupt_untouched h source (Taken g written) = refl
 interrupt_untouched h source (KernelStackBad g written) = refl
-interrupt_untouched h source (Stops stop) = refl
+interrupt_untouched h source (StopsGuest stop) = refl
 
 -- the step is counted
 module _ (m : Machine) (s : Shadowed) (g : GuestState) (g1 : GuestState) (stands : StandsFor m.memory s g) (state : state_of g1 ≡ counted (state_of g)) (place : HasPlace g.pages g.base g.start g1) (runs : g.halt ≡ None) (n : ℕ) (some : 1 ≤ n) where

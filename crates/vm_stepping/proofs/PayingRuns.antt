@@ -16,7 +16,7 @@ use Rattle.vm_simulation_laws.proofs.Paying.{touches_follow}
 use Rattle.vm_shadow.specs.Shadowed.{Shadowed}
 use Rattle.vm_simulation_laws.specs.Bursts.{EndsBurst, after_counted, goes_on, missed_by, with_plain_steps, with_trap}
 use Rattle.vm_simulation_laws.specs.Laws.{frames_claimed}
-use Rattle.vm_state.specs.Initiate.{Initiation, KernelStackBad, Stops, Taken, initiate}
+use Rattle.vm_state.specs.Initiate.{Initiation, KernelStackBad, StopsGuest, Taken, initiate}
 use Rattle.vm_state.specs.Partition.{guest_of}
 use Rattle.vm_state.specs.Run.{Run, after_step, after_steps, no_steps}
 use Rattle.vm_state.specs.State.{Guest, state_of}
@@ -161,7 +161,7 @@ module _ (all n : ℕ) (m : Machine) (s : Shadowed) (g : GuestState) (ran : Ran)
 same_guest : (a b : Kind) (h : Guest) (i : Initiation) → (initiated_in a h i).guest ≡ (initiated_in b h i).guest
 same_guest a b h (Taken g written) = refl
 same_guest a b h (KernelStackBad g written) = refl
-same_guest a b h (Stops stop) = refl
+same_guest a b h (StopsGuest stop) = refl
 
 -- it retired with a trap
 module _ (all n : ℕ) (m : Machine) (s : Shadowed) (g : GuestState) (ran : Ran) (m1 : Machine) (g1 : GuestState) (some : 1 ≤ n) (most : n ≤ all) (k : IsRun n m s g ran m1 g1) (kind : ℕ) (is : ran.exit ≡ Arithmetic kind) (m2 : Machine) (s2 : Shadowed) (g2 : GuestState)

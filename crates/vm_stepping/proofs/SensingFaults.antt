@@ -17,7 +17,7 @@ use Rattle.vax_table.specs.declared.act.Trapped.{Trapped}
 use Rattle.vm_exception.specs.Initiated.{IsProper}
 use Rattle.vm_state.specs.Contexts as contexts
 use Rattle.vm_state.specs.Contexts.{after_push, after_reads, is_block_past, is_block_reserved, loaded, loads_context, saves_context, two_popped}
-use Rattle.vm_state.specs.Initiate.{Initiation, KernelStackBad, Stops, Taken, initiate, new_mode}
+use Rattle.vm_state.specs.Initiate.{Initiation, KernelStackBad, StopsGuest, Taken, initiate, new_mode}
 use Rattle.vm_state.specs.Packets.{accepted}
 use Rattle.vm_state.specs.Pushes.{Faulty, Homes, PastMemory, Walked, push_walked}
 use Rattle.vm_state.specs.Registers.{Value, Written, read, written}
@@ -26,8 +26,8 @@ use Rattle.vm_state.specs.Sensitive.{after_register_read, change_mode, chm_walke
 use Rattle.vm_state.specs.State.{Guest, State, mode_of_state, pointer_of}
 use Rattle.vm_state.specs.Translation.{is_clear, space_of, walk_of}
 use Rattle.vm_state.specs.declared.exception.Exc.TheVariants as excs
-use Rattle.vm_state.specs.declared.register.Effect.{Effect}
-use Rattle.vm_state.specs.declared.register.Effect.TheVariants as effects
+use Rattle.vm_state.specs.declared.register.RegisterEffect.{RegisterEffect}
+use Rattle.vm_state.specs.declared.register.RegisterEffect.TheVariants as effects
 use Rattle.vm_state.specs.declared.register.ReservedOperand.{ReservedOperand}
 use Rattle.vm_state.specs.declared.transfer.Accept.{Accept}
 use Rattle.vm_state.specs.declared.transfer.Accept.TheVariants.{BadPacket, Busy, Queued}
@@ -45,7 +45,7 @@ HasProperFault LacksMemory = Unit {0}
 proper_changed : (i : Initiation) → HasProperFault (mode_changed i)
 proper_changed (Taken h written) = tt
 proper_changed (KernelStackBad h written) = tt
-proper_changed (Stops stop) = tt
+proper_changed (StopsGuest stop) = tt
 
 proper_walked : (i : Initiation) (w : Walked) → HasProperFault (chm_walked i w)
 proper_walked i (Homes hs) = proper_changed i
@@ -68,7 +68,7 @@ proper_walk walks.Beyond = tt
 
 proper_refusal : (g : Guest) (r : Refusal) → HasProperFault (troubled g (Test r))
 proper_refusal g refusals.Instruction = tt
-proper_refusal g refusals.Operand = tt
+proper_refusal g refusals.ReservedOperand = tt
 proper_refusal g refusals.Addressing = tt
 proper_refusal g refusals.Customer = tt
 proper_refusal g refusals.Breakpoint = tt
@@ -86,7 +86,7 @@ proper_packet g s packet BadPacket = tt
 proper_packet g s packet Busy = tt
 proper_packet g s packet Queued = tt
 
-proper_effect : (g : Guest) (s : State) (e : Effect) → HasProperFault (with_register_effect g s e)
+proper_effect : (g : Guest) (s : State) (e : RegisterEffect) → HasProperFault (with_register_effect g s e)
 proper_effect g s effects.Done = tt
 proper_effect g s effects.Remap = tt
 proper_effect g s (effects.Show byte) = tt

@@ -38,7 +38,7 @@ fn refused_as(refusal: Refusal) -> Exc
 {
     match refusal {
         Refusal::Instruction => Exc::ReservedInstruction,
-        Refusal::Operand => Exc::ReservedOperand,
+        Refusal::ReservedOperand => Exc::ReservedOperand,
         Refusal::Addressing => Exc::ReservedAddressing,
         Refusal::Customer => Exc::Customer,
         Refusal::Breakpoint => Exc::Breakpoint,

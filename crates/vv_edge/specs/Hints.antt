@@ -97,5 +97,5 @@ hint_of (answers.Asm fault) told = line_if (codes "the line is: ") told.line ++ 
 hint_of (answers.Audit fault) told = line_if (codes "the line is: ") told.line
 hint_of (answers.VolumeSize volume) told = note_if told.wanted ++ notes_of told.flawed
 hint_of (answers.DriveIn drive) told = notes_of told.flawed
-hint_of (answers.Device device) told = notes_of told.lines ++ notes_of told.drives
+hint_of (answers.DeviceFault device) told = notes_of told.lines ++ notes_of told.drives
 hint_of status told = line_if [] (advice status)

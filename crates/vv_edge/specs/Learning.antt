@@ -8,7 +8,7 @@ use Rattle.vv_edge.specs.Columns.{script_column, source_column}
 use Rattle.vv_edge.specs.declared.telling.Note.{Note}
 use Rattle.vv_edge.specs.declared.telling.Note.TheVariants.{Wanted}
 use Rattle.vvmm_files.specs.declared.status.Status.{Status}
-use Rattle.vvmm_files.specs.declared.status.Status.TheVariants.{Script, Audit, Asm, VolumeSize, Device}
+use Rattle.vvmm_files.specs.declared.status.Status.TheVariants.{Script, Audit, Asm, VolumeSize, DeviceFault}
 
 -- the place among the words of the file that says more about an answer, if one does
 abbrev pub told_word : Status → Option ℕ
@@ -16,12 +16,12 @@ told_word (Script fault) = Some 2
 told_word (Audit fault) = Some 2
 told_word (Asm fault) = Some 1
 told_word (VolumeSize volume) = Some 1
-told_word (Device device) = Some 1
+told_word (DeviceFault device) = Some 1
 told_word status = None
 
 -- the audit's line, where a device failed
 abbrev pub audit_line_in : Result Config ConfigFault → Status → Option ℕ
-audit_line_in (Ok config) (Device device) = option_map (λ audit. audit.line) config.audit
+audit_line_in (Ok config) (DeviceFault device) = option_map (λ audit. audit.line) config.audit
 audit_line_in config status = None
 
 -- what the drive of a volume must have

@@ -12,7 +12,7 @@ use Rattle.vv_edge.specs.Hints.{hint_of}
 use Rattle.vv_edge.specs.Learning.{seen_as}
 use Rattle.vv_edge.specs.declared.asked.TheConstants.{HELP}
 use Rattle.vv_edge.specs.declared.hints.Told.{Told}
-use Rattle.vvmm_files.specs.declared.status.Status.TheVariants.{Done, Words, ShelfFault, NoMemory, DriveIn, Device as DeviceFault, Config as ConfigRefused, Asm}
+use Rattle.vvmm_files.specs.declared.status.Status.TheVariants.{Done, Words, ShelfFault, NoMemory, DriveIn, DeviceFault, Config as ConfigRefused, Asm}
 
 two_words_are_no_text : text_asked (codes "--help" ∷ codes "--version" ∷ []) ≡ None
 two_words_are_no_text = refl

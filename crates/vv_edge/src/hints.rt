@@ -242,7 +242,7 @@ pub fn hint(status: &Status, told: &Told) -> Text<8192>
         Status::Audit(_) => text.append(line_if(b"the line is: ", told.line.bytes()).bytes()),
         Status::VolumeSize(_) => return unfit(told),
         Status::DriveIn(_) => text.append(notes(&told.flawed).bytes()),
-        Status::Device(_) => return failed(told),
+        Status::DeviceFault(_) => return failed(told),
         _ => text.append(line_if(b"", advice(status)).bytes()),
     }
     text

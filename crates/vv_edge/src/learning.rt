@@ -15,7 +15,7 @@ pub fn told_word(status: &Status) -> Option<usize>
 {
     match status {
         Status::Script(_) | Status::Audit(_) => Some(2),
-        Status::Asm(_) | Status::VolumeSize(_) | Status::Device(_) => Some(1),
+        Status::Asm(_) | Status::VolumeSize(_) | Status::DeviceFault(_) => Some(1),
         _ => None,
     }
 }
@@ -24,7 +24,7 @@ pub fn told_word(status: &Status) -> Option<usize>
 pub fn audit_line(alloc: Global, config: &[u8], status: &Status) -> Result<Option<u8>, NoMemory>
     ensures { IfOk result (λ line. line ≡ audit_line_in (config_of config.now) status.now) }
 {
-    if !matches!(status, Status::Device(_)) {
+    if !matches!(status, Status::DeviceFault(_)) {
         return Ok(None);
     }
     match read_config(alloc, config) {

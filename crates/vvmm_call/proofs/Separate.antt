@@ -23,7 +23,7 @@ use Rattle.sys_system.specs.declared.power.PowerFault.{PowerFault}
 use Rattle.sys_system.specs.declared.power.PowerFault.TheVariants.{Image, VolumeSize, DriveIn, NoMemory}
 use Rattle.vvmm_call.specs.Answer.{IsSeparate, IsShownSeparate, IsShownSeparateFrom, PlaysConfiguration}
 use Rattle.vvmm_files.specs.Solo.{solo_config}
-use Rattle.vvmm_files.specs.Words.{Asked}
+use Rattle.vvmm_files.specs.Words.{SoloWords}
 use Rattle.vvmm_files.specs.declared.status.Status.{Status}
 
 pub separate : (x : Input) → IsConfig x.config → IsSeparate x
@@ -41,7 +41,7 @@ extended_separate m es n accepted is k d within =
     shown_kept m es n (consistent_fits m.config m.state (moments_stand_right m is)) class accepted (get_or (devices_of m.config) k d).line (line_flows m.config accepted class k d within (flows_itself class))
 
 -- a run of the guest A
-pub as_solo : (a : Asked) (c : Config) (images : List (List ℕ)) (es : List Event) (image : List ℕ) (status : Status) (o : RunOutside) (out out' : Seen) → c ≡ solo_config a → es ≡ [] → images ≡ image ∷ [] → PlaysConfiguration MissesArePaid c images es 1 status o out out' → PlaysConfiguration MissesArePaid (solo_config a) (image ∷ []) [] 1 status o out out'
+pub as_solo : (a : SoloWords) (c : Config) (images : List (List ℕ)) (es : List Event) (image : List ℕ) (status : Status) (o : RunOutside) (out out' : Seen) → c ≡ solo_config a → es ≡ [] → images ≡ image ∷ [] → PlaysConfiguration MissesArePaid c images es 1 status o out out' → PlaysConfiguration MissesArePaid (solo_config a) (image ∷ []) [] 1 status o out out'
 as_solo a c images es image status o out out' config events one plays =
     subst (λ (x : Config). PlaysConfiguration MissesArePaid x (image ∷ []) [] 1 status o out out') config (subst (λ (xs : List (List ℕ)). PlaysConfiguration MissesArePaid c xs [] 1 status o out out') one (subst (λ (xs : List Event). PlaysConfiguration MissesArePaid c images xs 1 status o out out') events plays))
 
@@ -49,7 +49,7 @@ as_solo a c images es image status o out out' config events one plays =
 no_row : (v : ℕ) (row : VolumeRow) → (let rows : List VolumeRow = [] in slice_get rows v ≡ Some row) → ⊥
 no_row v row e = cc
 
-pub solo_drives : TouchesNoDrive → (a : Asked) (image : List ℕ) (result : Result Ran PowerFault) (o : RunOutside) → Runs MissesArePaid (solo_config a) (image ∷ []) [] 1 result o → o.drives' ≡ o.drives
+pub solo_drives : TouchesNoDrive → (a : SoloWords) (image : List ℕ) (result : Result Ran PowerFault) (o : RunOutside) → Runs MissesArePaid (solo_config a) (image ∷ []) [] 1 result o → o.drives' ≡ o.drives
 solo_drives law a image (Ok ran) o (volumes, makes) = law _ ran o refl makes
 solo_drives law a image (Err (Image g)) o (misfit, untouched) = untouched.drives
 solo_drives law a image (Err (VolumeSize v)) o (fits, misfit, untouched) = untouched.drives

@@ -14,7 +14,7 @@ use Rattle.sys_trace.specs.Traced.{HasOne, input_of}
 use Rattle.vm_stepping.specs.Made.{steps_in}
 use Rattle.vvmm_call.specs.Answer.{EndsWithPut, status_when_done}
 use Rattle.vvmm_files.specs.Solo.{solo_config, solo_guest}
-use Rattle.vvmm_files.specs.Words.{Asked}
+use Rattle.vvmm_files.specs.Words.{SoloWords}
 use Rattle.vvmm_files.specs.declared.status.Status.{Status}
 
 -- what was put before is cut, and no more is put
@@ -34,13 +34,13 @@ put_before failed is_cut status start out out' before bytes bytes' is same shown
 }
 
 -- one guest, and no volume
-pub one_guest : (a : Asked) (c : Config) → c ≡ solo_config a → length c.guests ≡ 1
+pub one_guest : (a : SoloWords) (c : Config) → c ≡ solo_config a → length c.guests ≡ 1
 one_guest a c config = ap (λ (x : Config). length x.guests) config
 
-pub no_volume : (a : Asked) (c : Config) → c ≡ solo_config a → c.volumes ≡ []
+pub no_volume : (a : SoloWords) (c : Config) → c ≡ solo_config a → c.volumes ≡ []
 no_volume a c config = ap (λ (x : Config). x.volumes) config
 
-pub has_one : (a : Asked) (c : Config) → c ≡ solo_config a → HasOne c (solo_guest a)
+pub has_one : (a : SoloWords) (c : Config) → c ≡ solo_config a → HasOne c (solo_guest a)
 has_one a c config = record { guests = ap (λ (x : Config). x.guests) config; volumes = no_volume a c config }
 
 -- a run of one round takes few steps
@@ -48,10 +48,10 @@ pub few_traced : (x : Config) (image : List ℕ) (ran : Ran) (o : RunOutside) �
 few_traced x image ran o made = omega (arith, made.makes.few)
 
 -- the run that was made, and that which stays down, are those of the guest A
-pub made_solo : (a : Asked) (c : Config) (image : List ℕ) (ran : Ran) (o : RunOutside) → c ≡ solo_config a → MakesRun MissesArePaid (input_of c image) ran o → Runs MissesArePaid (solo_config a) (image ∷ []) [] 1 (Ok ran) o
+pub made_solo : (a : SoloWords) (c : Config) (image : List ℕ) (ran : Ran) (o : RunOutside) → c ≡ solo_config a → MakesRun MissesArePaid (input_of c image) ran o → Runs MissesArePaid (solo_config a) (image ∷ []) [] 1 (Ok ran) o
 made_solo a c image ran o config made = ([], subst (λ (x : Config). MakesRun MissesArePaid (input_of x image) ran o) config made)
 
-pub down_solo : (a : Asked) (c : Config) (image : List ℕ) (fault : PowerFault) (o : RunOutside) → c ≡ solo_config a → StaysDown c (image ∷ []) fault o → Runs MissesArePaid (solo_config a) (image ∷ []) [] 1 (Err fault) o
+pub down_solo : (a : SoloWords) (c : Config) (image : List ℕ) (fault : PowerFault) (o : RunOutside) → c ≡ solo_config a → StaysDown c (image ∷ []) fault o → Runs MissesArePaid (solo_config a) (image ∷ []) [] 1 (Err fault) o
 down_solo a c image fault o config down = subst (λ (x : Config). StaysDown x (image ∷ []) fault o) config down
 
 -- the image is lent as a slice

@@ -16,7 +16,7 @@ use Rattle.sys_state.specs.Run.{Input, Moment}
 use Rattle.sys_system.specs.declared.power.PowerFault.{PowerFault}
 use Rattle.vv_gen.specs.Workload.{Generated, workload_of}
 use Rattle.vvmm_call.specs.Answer.{FollowsExtend, FollowsLive, FollowsLoad, FollowsResume, FollowsRun, FollowsSave, FollowsSolo, FollowsTrace, Outside, PlaysConfiguration, PlaysLoad, Says, run_outside}
-use Rattle.vvmm_files.specs.Words.{Asked, LiveAsked, ResumeAsked, RunAsked, Wanted}
+use Rattle.vvmm_files.specs.Words.{SoloWords, LiveWords, ResumeWords, RunWords, Wanted}
 use Rattle.vvmm_files.specs.Words as words
 use Rattle.vvmm_files.specs.declared.status.Status.{Status}
 
@@ -92,31 +92,31 @@ lives_run c images most (Err fault) o p out out' down = down
 plays : (c : Config) (images : List (List ℕ)) (es : List Event) (n : ℕ) (status : Status) (o : RunOutside) (out out' : Seen) → PlaysConfiguration MissesArePaid c images es n status o out out' → PlaysConfiguration NothingMore c images es n status o out out'
 plays c images es n status o out out' r = record { result = r.result; runs = runs c images es n r.result o r.runs; answers = r.answers }
 
-solo : (a : Asked) (status : Status) (o : Outside) → FollowsSolo MissesArePaid a status o → FollowsSolo NothingMore a status o
+solo : (a : SoloWords) (status : Status) (o : Outside) → FollowsSolo MissesArePaid a status o → FollowsSolo NothingMore a status o
 solo a status o (inl stops) = inl stops
 solo a status o (inr r) = inr (record { image = r.image; read = r.read; shelf = r.shelf; plays = plays _ _ _ _ status _ o.out o.out' r.plays; drives = r.drives })
 
-trace : (a : Asked) (status : Status) (o : Outside) → FollowsTrace MissesArePaid a status o → FollowsTrace NothingMore a status o
+trace : (a : SoloWords) (status : Status) (o : Outside) → FollowsTrace MissesArePaid a status o → FollowsTrace NothingMore a status o
 trace a status o (inl stops) = inl stops
 trace a status o (inr r) = inr (record { image = r.image; read = r.read; shelf = r.shelf; result = r.result; runs = runs _ _ _ _ r.result _ r.runs; answers = r.answers; drives = r.drives })
 
-run : (a : RunAsked) (status : Status) (o : Outside) → FollowsRun MissesArePaid a status o → FollowsRun NothingMore a status o
+run : (a : RunWords) (status : Status) (o : Outside) → FollowsRun MissesArePaid a status o → FollowsRun NothingMore a status o
 run a status o (inl stops) = inl stops
 run a status o (inr r) = inr (record { config = r.config; events = r.events; images = r.images; has = r.has; shelf = r.shelf; plays = plays _ _ _ _ status _ o.out o.out' r.plays; separate = r.separate })
 
-save : (a : RunAsked) (status : Status) (o : Outside) → FollowsSave MissesArePaid a status o → FollowsSave NothingMore a status o
+save : (a : RunWords) (status : Status) (o : Outside) → FollowsSave MissesArePaid a status o → FollowsSave NothingMore a status o
 save a status o (inl stops) = inl stops
 save a status o (inr r) = inr (record { config = r.config; text = r.text; events = r.events; images = r.images; has = r.has; shelf = r.shelf; result = r.result; saves = saves_run _ _ _ _ _ r.result _ o.out o.out' r.saves; answers = r.answers; separate = r.separate })
 
-resume : (a : ResumeAsked) (status : Status) (o : Outside) → FollowsResume MissesArePaid a status o → FollowsResume NothingMore a status o
+resume : (a : ResumeWords) (status : Status) (o : Outside) → FollowsResume MissesArePaid a status o → FollowsResume NothingMore a status o
 resume a status o (inl stops) = inl stops
 resume a status o (inr r) = inr (record { moment = r.moment; events = r.events; has = r.has; shelf = r.shelf; result = r.result; ends = (continues _ _ _ r.result _ r.ends.0, r.ends.1, r.ends.2) })
 
-extend : (a : ResumeAsked) (status : Status) (o : Outside) → FollowsExtend MissesArePaid a status o → FollowsExtend NothingMore a status o
+extend : (a : ResumeWords) (status : Status) (o : Outside) → FollowsExtend MissesArePaid a status o → FollowsExtend NothingMore a status o
 extend a status o (inl stops) = inl stops
 extend a status o (inr r) = inr (record { moment = r.moment; events = r.events; has = r.has; shelf = r.shelf; result = r.result; ends = (extends_run _ _ _ _ r.result _ o.out o.out' r.ends.0, r.ends.1, r.ends.2, r.ends.3) })
 
-live : (a : LiveAsked) (status : Status) (o : Outside) (p : Operator) → FollowsLive MissesArePaid a status o p → FollowsLive NothingMore a status o p
+live : (a : LiveWords) (status : Status) (o : Outside) (p : Operator) → FollowsLive MissesArePaid a status o p → FollowsLive NothingMore a status o p
 live a status o p (inl stops) = inl stops
 live a status o p (inr r) = inr (record { config = r.config; images = r.images; has = r.has; shelf = r.shelf; result = r.result; shown = r.shown; lives = lives_run _ _ _ r.result _ p o.out r.shown r.lives; answers = r.answers; separate = r.separate })
 

@@ -47,11 +47,11 @@ use Rattle.vv_gen.specs.Workload.{Generated, workload_of}
 use Rattle.vvmm_files.specs.Files.{HasAll, HasAllToLive, HasAllToSave, HasBoth, HasConfig, IsRead, StopsAudit, StopsConfig, StopsExtend, StopsFile, StopsLive, StopsResume, StopsRun, StopsSave}
 use Rattle.vvmm_files.specs.Solo.{solo_config, solo_guest}
 use Rattle.vvmm_call.specs.Summary.{check_line, summary}
-use Rattle.vvmm_files.specs.Words.{Asked, AuditAsked, LiveAsked, ResumeAsked, RunAsked, Wanted, WantsSolo, WantsTrace, WantsRun, WantsSave, WantsResume, WantsExtend, WantsLive, WantsLoad, WantsCheck, WantsMigration, WantsAudit, WantsFlow, WantsDrawing, WantsBytes, WantsListing, WantsText}
+use Rattle.vvmm_files.specs.Words.{SoloWords, AuditWords, LiveWords, ResumeWords, RunWords, Wanted, WantsSolo, WantsTrace, WantsRun, WantsSave, WantsResume, WantsExtend, WantsLive, WantsLoad, WantsCheck, WantsMigration, WantsAudit, WantsFlow, WantsDrawing, WantsBytes, WantsListing, WantsText}
 use Rattle.vvmm_files.specs.declared.status.Status.{Status}
-use Rattle.vvmm_files.specs.declared.status.Status.TheVariants.{Done, Words, Missing, TooLong, ShelfFault, Config as ConfigRefused, Script as ScriptRefused, Image, VolumeSize, DriveIn, Device as DeviceFault, Asm, SnapSize, Snap as SnapRefused, Audit, OutFault, KeyFault, NoMemory}
-use Rattle.vvmm_files.specs.declared.stop.Stop.{Stop}
-use Rattle.vvmm_files.specs.declared.stop.Stop.TheVariants as stops
+use Rattle.vvmm_files.specs.declared.status.Status.TheVariants.{Done, Words, Missing, TooLong, ShelfFault, Config as ConfigRefused, Script as ScriptRefused, Image, VolumeSize, DriveIn, DeviceFault, Asm, SnapSize, Snap as SnapRefused, Audit, OutFault, KeyFault, NoMemory}
+use Rattle.vvmm_files.specs.declared.stop.CommandFault.{CommandFault}
+use Rattle.vvmm_files.specs.declared.stop.CommandFault.TheVariants as stops
 
 -- The outside before and after the call: the shelf's files, where they are known, and its count of faults; the machine; the
 -- lines, the drives, and the sink `out`.
@@ -88,15 +88,15 @@ pub record Apart (o : Outside) : Type 0 where
   pub machine : o.machine' ≡ o.machine
 
 -- the answer where a command stops before anything is shown, and where power doesn't come up
-abbrev pub stopped_status : Stop → Status
-stopped_status (stops.Missing name) = Missing name
-stopped_status (stops.TooLong name) = TooLong name
-stopped_status stops.ShelfFault = ShelfFault
-stopped_status (stops.Config f) = ConfigRefused f
-stopped_status (stops.Script f) = ScriptRefused f
-stopped_status stops.SnapSize = SnapSize
-stopped_status (stops.Snap f) = SnapRefused f
-stopped_status stops.NoMemory = NoMemory
+abbrev pub fault_status : CommandFault → Status
+fault_status (stops.Missing name) = Missing name
+fault_status (stops.TooLong name) = TooLong name
+fault_status stops.ShelfFault = ShelfFault
+fault_status (stops.Config f) = ConfigRefused f
+fault_status (stops.Script f) = ScriptRefused f
+fault_status stops.SnapSize = SnapSize
+fault_status (stops.Snap f) = SnapRefused f
+fault_status stops.NoMemory = NoMemory
 
 abbrev pub power_status : PowerFault → Status
 power_status (faults.Image guest) = Image guest
@@ -117,9 +117,9 @@ pub record EndsWithPut (failed : Option Device) (bytes : List ℕ) (status : Sta
   pub shows : ShownSince cut out out' bytes
 
 -- A command stops before anything is shown, for a reason.
-pub record Stops (Why : Stop → Type 0) (status : Status) : Type 0 where
-  pub stop : Stop
-  pub is : status ≡ stopped_status stop
+pub record Refuses (Why : CommandFault → Type 0) (status : Status) : Type 0 where
+  pub stop : CommandFault
+  pub is : status ≡ fault_status stop
   pub why : Why stop
 
 -- how a run that was to be made is answered: power doesn't come up, or it is made, and its summary is put
@@ -140,15 +140,15 @@ pub record IsSeparate (x : Input) : Type 0 where
   pub drives : All (λ v. drive_blocks (purged x v.class) v.drive ≡ drive_blocks x v.drive) x.config.volumes
 
 -- `solo`: the image was fetched, and the guest A runs; the drives are as before
-pub record PlaysSolo (Also : Besides) (a : Asked) (status : Status) (o : Outside) : Type 0 where
+pub record PlaysSolo (Also : Besides) (a : SoloWords) (status : Status) (o : Outside) : Type 0 where
   pub image : List ℕ
   pub read : IsRead o.files a.image image
   pub shelf : o.shelf' ≡ o.shelf
   pub plays : PlaysConfiguration Also (solo_config a) (image ∷ []) [] 1 status (run_outside o) o.out o.out'
   pub drives : o.drives' ≡ o.drives
 
-abbrev pub FollowsSolo : Besides → Asked → Status → Outside → Type 0
-FollowsSolo Also a status o = (Stops (StopsFile o.files a.image o.shelf o.shelf') status × Silent o) ⊎ PlaysSolo Also a status o
+abbrev pub FollowsSolo : Besides → SoloWords → Status → Outside → Type 0
+FollowsSolo Also a status o = (Refuses (StopsFile o.files a.image o.shelf o.shelf') status × Silent o) ⊎ PlaysSolo Also a status o
 
 -- how a run whose steps were to be shown is answered: power doesn't come up, or it is made, and its trace is put, with the summary
 -- after it
@@ -158,7 +158,7 @@ AnswersTrace trace (Ok ran) status out out' = EndsWithPut ran.failed (trace ++ s
 
 -- `trace`: the image was fetched, and the run of `solo` is made; what is put is the trace of the guest A, which steps alone on its
 -- private virtual VAX
-pub record PlaysTrace (Also : Besides) (a : Asked) (status : Status) (o : Outside) : Type 0 where
+pub record PlaysTrace (Also : Besides) (a : SoloWords) (status : Status) (o : Outside) : Type 0 where
   pub image : List ℕ
   pub read : IsRead o.files a.image image
   pub shelf : o.shelf' ≡ o.shelf
@@ -167,11 +167,11 @@ pub record PlaysTrace (Also : Besides) (a : Asked) (status : Status) (o : Outsid
   pub answers : AnswersTrace (trace_of a.steps (powered (solo_guest a) image)) result status o.out o.out'
   pub drives : o.drives' ≡ o.drives
 
-abbrev pub FollowsTrace : Besides → Asked → Status → Outside → Type 0
-FollowsTrace Also a status o = (Stops (StopsFile o.files a.image o.shelf o.shelf') status × Silent o) ⊎ PlaysTrace Also a status o
+abbrev pub FollowsTrace : Besides → SoloWords → Status → Outside → Type 0
+FollowsTrace Also a status o = (Refuses (StopsFile o.files a.image o.shelf o.shelf') status × Silent o) ⊎ PlaysTrace Also a status o
 
 -- `run`: all files were fetched, and the configuration runs. Whatever the drives hold, its devices are separate.
-pub record PlaysRun (Also : Besides) (a : RunAsked) (status : Status) (o : Outside) : Type 0 where
+pub record PlaysRun (Also : Besides) (a : RunWords) (status : Status) (o : Outside) : Type 0 where
   pub config : Config
   pub events : List Event
   pub images : List (List ℕ)
@@ -180,8 +180,8 @@ pub record PlaysRun (Also : Besides) (a : RunAsked) (status : Status) (o : Outsi
   pub plays : PlaysConfiguration Also config images events a.rounds status (run_outside o) o.out o.out'
   pub separate : (volumes : List (List (List ℕ))) → IsSeparate (record { config = config; images = images; volumes = volumes; events = events; rounds = a.rounds })
 
-abbrev pub FollowsRun : Besides → RunAsked → Status → Outside → Type 0
-FollowsRun Also a status o = (Stops (StopsRun o.files a o.shelf o.shelf') status × Silent o) ⊎ PlaysRun Also a status o
+abbrev pub FollowsRun : Besides → RunWords → Status → Outside → Type 0
+FollowsRun Also a status o = (Refuses (StopsRun o.files a o.shelf o.shelf') status × Silent o) ⊎ PlaysRun Also a status o
 
 -- What its rounds show on each device is what they show when all whose class doesn't flow into its own was never there.
 abbrev pub IsShownSeparate : Input → Type 0
@@ -194,7 +194,7 @@ AnswersSave (Ok saved) status = status ≡ status_when_done saved.failed saved.i
 
 -- `save`: all files were fetched, the rounds are made, and the snapshot is put with the fetched text. Whatever the drives hold,
 -- its devices are separate.
-pub record PlaysSave (Also : Besides) (a : RunAsked) (status : Status) (o : Outside) : Type 0 where
+pub record PlaysSave (Also : Besides) (a : RunWords) (status : Status) (o : Outside) : Type 0 where
   pub config : Config
   pub text : List ℕ
   pub events : List Event
@@ -206,11 +206,11 @@ pub record PlaysSave (Also : Besides) (a : RunAsked) (status : Status) (o : Outs
   pub answers : AnswersSave result status
   pub separate : (volumes : List (List (List ℕ))) → IsShownSeparate (record { config = config; images = images; volumes = volumes; events = events; rounds = a.rounds })
 
-abbrev pub FollowsSave : Besides → RunAsked → Status → Outside → Type 0
-FollowsSave Also a status o = (Stops (StopsSave o.files a o.shelf o.shelf') status × Silent o) ⊎ PlaysSave Also a status o
+abbrev pub FollowsSave : Besides → RunWords → Status → Outside → Type 0
+FollowsSave Also a status o = (Refuses (StopsSave o.files a o.shelf o.shelf') status × Silent o) ⊎ PlaysSave Also a status o
 
 -- A command that goes on from a snapshot: that and the script were fetched, and so it ends, from its moment and with its text.
-pub record PlaysFrom (Left : Type 0) (a : ResumeAsked) (o : Outside) (Ends : Moment → List ℕ → List Event → Result Left PowerFault → Type 0) : Type 0 where
+pub record PlaysFrom (Left : Type 0) (a : ResumeWords) (o : Outside) (Ends : Moment → List ℕ → List Event → Result Left PowerFault → Type 0) : Type 0 where
   pub moment : Moment
   pub events : List Event
   pub has : HasBoth o.files a moment events
@@ -219,11 +219,11 @@ pub record PlaysFrom (Left : Type 0) (a : ResumeAsked) (o : Outside) (Ends : Mom
   pub ends : Ends moment has.snap.is.text events result
 
 -- `resume`: the run goes on, and its summary is put. From the snapshot's moment on its devices are separate.
-abbrev pub PlaysResume : Besides → ResumeAsked → Status → Outside → Type 0
+abbrev pub PlaysResume : Besides → ResumeWords → Status → Outside → Type 0
 PlaysResume Also a status o = PlaysFrom Ran a o (λ m text es result. ContinuesRun Also m es a.rounds result (run_outside o) × AnswersRun a.rounds result status o.out o.out' × IsSeparateFrom m es a.rounds)
 
-abbrev pub FollowsResume : Besides → ResumeAsked → Status → Outside → Type 0
-FollowsResume Also a status o = (Stops (StopsResume o.files a o.shelf o.shelf') status × Silent o) ⊎ PlaysResume Also a status o
+abbrev pub FollowsResume : Besides → ResumeWords → Status → Outside → Type 0
+FollowsResume Also a status o = (Refuses (StopsResume o.files a o.shelf o.shelf') status × Silent o) ⊎ PlaysResume Also a status o
 
 -- From a moment on, what rounds show on each device is what they show when all whose class doesn't flow into its own was taken out
 -- of the moment and of the events.
@@ -231,11 +231,11 @@ abbrev pub IsShownSeparateFrom : Moment → List Event → ℕ → Type 0
 IsShownSeparateFrom m es n = All (λ d. shown_from (purged_moment m d.class) (purge_events m.config es d.class) n d.line ≡ shown_from m es n d.line) (devices_of m.config)
 
 -- `extend`: the run goes on, to a round that a snapshot can have, and is put as one. From its moment on its devices are separate.
-abbrev pub PlaysExtend : Besides → ResumeAsked → Status → Outside → Type 0
+abbrev pub PlaysExtend : Besides → ResumeWords → Status → Outside → Type 0
 PlaysExtend Also a status o = PlaysFrom Saved a o (λ m text es result. ExtendsRun Also m text es a.rounds result (run_outside o) o.out o.out' × AnswersSave result status × IsShownSeparateFrom m es a.rounds × (m.made + a.rounds ≤ 1000000))
 
-abbrev pub FollowsExtend : Besides → ResumeAsked → Status → Outside → Type 0
-FollowsExtend Also a status o = (Stops (StopsExtend o.files a o.shelf o.shelf') status × Silent o) ⊎ PlaysExtend Also a status o
+abbrev pub FollowsExtend : Besides → ResumeWords → Status → Outside → Type 0
+FollowsExtend Also a status o = (Refuses (StopsExtend o.files a o.shelf o.shelf') status × Silent o) ⊎ PlaysExtend Also a status o
 
 -- the answer where all was done: a device that failed goes first, then what is cut, then that the typing broke off, or that
 -- memory ran out for a typed line
@@ -264,7 +264,7 @@ AnswersLive (Ok lived) status shown out' = ClosesLive lived status shown out'
 
 -- `live`: configuration and images were fetched, and the run is made as it is typed. Whatever is typed and the drives hold, its
 -- devices are separate.
-pub record PlaysLive (Also : Besides) (a : LiveAsked) (status : Status) (o : Outside) (p : Operator) : Type 0 where
+pub record PlaysLive (Also : Besides) (a : LiveWords) (status : Status) (o : Outside) (p : Operator) : Type 0 where
   pub config : Config
   pub images : List (List ℕ)
   pub has : HasAllToLive o.files a config images
@@ -276,8 +276,8 @@ pub record PlaysLive (Also : Besides) (a : LiveAsked) (status : Status) (o : Out
   pub answers : AnswersLive result status shown o.out'
   pub separate : (x : Input) → x.config ≡ config → IsSeparate x
 
-abbrev pub FollowsLive : Besides → LiveAsked → Status → Outside → Operator → Type 0
-FollowsLive Also a status o p = (Stops (StopsLive o.files a o.shelf o.shelf') status × Silent o × Untyped p) ⊎ PlaysLive Also a status o p
+abbrev pub FollowsLive : Besides → LiveWords → Status → Outside → Operator → Type 0
+FollowsLive Also a status o p = (Refuses (StopsLive o.files a o.shelf o.shelf') status × Silent o × Untyped p) ⊎ PlaysLive Also a status o p
 
 -- `check`, `migrate`, `flow` and `draw`: the configuration was fetched, and bytes in this relation to it are put
 pub record ShowsConfig (Bytes : Config → List ℕ → Type 0) (name : List ℕ) (status : Status) (o : ShelfAndSink) : Type 0 where
@@ -289,7 +289,7 @@ pub record ShowsConfig (Bytes : Config → List ℕ → Type 0) (name : List ℕ
   pub closes : EndsWithPut None bytes status o.out o.out'
 
 abbrev pub FollowsConfig : (Config → List ℕ → Type 0) → List ℕ → Status → ShelfAndSink → Type 0
-FollowsConfig Bytes name status o = (Stops (StopsConfig o.files name o.shelf o.shelf') status × (o.out' ≡ o.out)) ⊎ ShowsConfig Bytes name status o
+FollowsConfig Bytes name status o = (Refuses (StopsConfig o.files name o.shelf o.shelf') status × (o.out' ≡ o.out)) ⊎ ShowsConfig Bytes name status o
 
 -- the run of a workload, over its own volumes
 abbrev pub workload_input : Generated → Input
@@ -324,7 +324,7 @@ AnswersCheck (Ok _) status out out' = EndsWithPut None (codes "accepted\n") stat
 AnswersCheck (Err fault) status out out' = (status ≡ Audit fault) × (out' ≡ out)
 
 -- `audit`: the configuration and what was recorded were fetched, and are checked
-pub record ChecksAudit (a : AuditAsked) (status : Status) (o : ShelfAndSink) : Type 0 where
+pub record ChecksAudit (a : AuditWords) (status : Status) (o : ShelfAndSink) : Type 0 where
   pub config : Config
   pub bytes : List ℕ
   pub result : Result (Unit {0}) AuditFault
@@ -334,8 +334,8 @@ pub record ChecksAudit (a : AuditAsked) (status : Status) (o : ShelfAndSink) : T
   pub checks : Checks config bytes result
   pub answers : AnswersCheck result status o.out o.out'
 
-abbrev pub FollowsAudit : AuditAsked → Status → ShelfAndSink → Type 0
-FollowsAudit a status o = (Stops (StopsAudit o.files a o.shelf o.shelf') status × (o.out' ≡ o.out)) ⊎ ChecksAudit a status o
+abbrev pub FollowsAudit : AuditWords → Status → ShelfAndSink → Type 0
+FollowsAudit a status o = (Refuses (StopsAudit o.files a o.shelf o.shelf') status × (o.out' ≡ o.out)) ⊎ ChecksAudit a status o
 
 -- the answer about a file of this name
 abbrev pub status_of : List ℕ → Answer → Status

@@ -7,7 +7,7 @@ use Rattle.sys_live.specs.Operator.{Operator}
 use Rattle.vvmm_call.specs.Answer.{Outside, Says}
 use Rattle.vvmm_files.specs.Words.{Wanted}
 use Rattle.vvmm_files.specs.declared.status.Status.{Status}
-use Rattle.vvmm_files.specs.declared.status.Status.TheVariants.{Done, OutFault, KeyFault, Device as DeviceFault}
+use Rattle.vvmm_files.specs.declared.status.Status.TheVariants.{Done, OutFault, KeyFault, DeviceFault}
 use Rattle.sys_devices.specs.Syncing.{SyncsDrives, SyncsLines}
 use Rattle.sys_system.specs.Devices.{device_of}
 use Rattle.sys_devices.specs.declared.device.Device.{Device}

@@ -2,7 +2,7 @@
 use Rattle.std.specs.Prelude.{◌≡◌, refl, Some, None}
 use Rattle.sys_devices.specs.declared.device.Device.TheVariants as devices
 use Rattle.vvmm_call.specs.Serves.{synced_status}
-use Rattle.vvmm_files.specs.declared.status.Status.TheVariants.{Done, Words, OutFault, Device as DeviceFault}
+use Rattle.vvmm_files.specs.declared.status.Status.TheVariants.{Done, Words, OutFault, DeviceFault}
 
 a_line_that_is_not_synced : synced_status Done (Some (devices.Line 4)) ≡ DeviceFault (devices.Line 4)
 a_line_that_is_not_synced = refl

@@ -4,7 +4,7 @@ ghost use Rattle.vm_stepping.specs.Made.{steps_in};
 ghost use Rattle.vvmm_call.specs.Answer.{AnswersLive, FollowsLive, live_status};
 
 use crate::report::summary;
-use crate::stop::{power_status, stopped_status};
+use crate::stop::{power_status, fault_status};
 use std::alloc::Global;
 use sys_devices::{Device, put_once};
 use sys_live::{Lived, Typing};
@@ -18,7 +18,7 @@ fn live_status(failed: Option<Device>, is_cut: bool, typing: Typing) -> Status
     ensures { result ≡ live_status failed is_cut typing }
 {
     match (failed, typing) {
-        (Some(device), _) => Status::Device(device),
+        (Some(device), _) => Status::DeviceFault(device),
         (None, _) if is_cut => Status::OutFault,
         (None, Typing::Broken) => Status::KeyFault,
         (None, Typing::Lost) => Status::NoMemory,
@@ -61,7 +61,7 @@ pub fn live<H: Hardware, S: Shelf, O: Sink, K: Keyboard, E: Sink, L: Lines>(
 {
     let inputs = match fetch_to_live(alloc, shelf, &order) {
         Ok(inputs) => inputs,
-        Err(stop) => return stopped_status(stop),
+        Err(stop) => return fault_status(stop),
     };
     let lived = sys_live::live(
         alloc,

@@ -20,7 +20,7 @@ pub fn done_status(failed: Option<Device>, is_cut: bool) -> Status
     ensures { result ≡ status_when_done failed is_cut }
 {
     match failed {
-        Some(device) => Status::Device(device),
+        Some(device) => Status::DeviceFault(device),
         None if is_cut => Status::OutFault,
         None => Status::Done,
     }

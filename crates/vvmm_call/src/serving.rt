@@ -41,10 +41,10 @@ fn synced_status(answer: Status, failed: Option<Device>) -> Status
     ensures { result ≡ synced_status answer failed }
 {
     match (answer, failed) {
-        (Status::Done, Some(device)) => Status::Device(device),
-        (Status::OutFault, Some(device)) => Status::Device(device),
-        (Status::KeyFault, Some(device)) => Status::Device(device),
-        (Status::Device(first), Some(device)) => Status::Device(lower(first, device)),
+        (Status::Done, Some(device)) => Status::DeviceFault(device),
+        (Status::OutFault, Some(device)) => Status::DeviceFault(device),
+        (Status::KeyFault, Some(device)) => Status::DeviceFault(device),
+        (Status::DeviceFault(first), Some(device)) => Status::DeviceFault(lower(first, device)),
         (answer, _) => answer,
     }
 }

@@ -3,7 +3,7 @@ ghost use Rattle.sys_runs.specs.Besides.{MissesArePaid};
 ghost use Rattle.vvmm_call.specs.Answer.{AnswersSave, FollowsExtend, FollowsResume, FollowsSave};
 
 use crate::playing::{answer, done_status};
-use crate::stop::{power_status, stopped_status};
+use crate::stop::{power_status, fault_status};
 use std::alloc::Global;
 use sys_runs::Saved;
 use sys_system::PowerFault;
@@ -40,7 +40,7 @@ pub fn save<H: Hardware, S: Shelf, O: Sink, P: Progress, L: Lines>(
 {
     let to_save = match fetch_to_save(alloc, shelf, &order) {
         Ok(to_save) => to_save,
-        Err(stop) => return stopped_status(stop),
+        Err(stop) => return fault_status(stop),
     };
     let inputs = to_save.inputs;
     let saved = sys_runs::save(
@@ -77,7 +77,7 @@ pub fn resume<H: Hardware, S: Shelf, O: Sink, P: Progress, L: Lines>(
 {
     let inputs = match fetch_to_resume(alloc, shelf, &order) {
         Ok(inputs) => inputs,
-        Err(stop) => return stopped_status(stop),
+        Err(stop) => return fault_status(stop),
     };
     let ran = sys_runs::resume(
         alloc,
@@ -110,7 +110,7 @@ pub fn extend<H: Hardware, S: Shelf, O: Sink, P: Progress, L: Lines>(
 {
     let inputs = match fetch_to_extend(alloc, shelf, &order) {
         Ok(inputs) => inputs,
-        Err(stop) => return stopped_status(stop),
+        Err(stop) => return fault_status(stop),
     };
     let saved = sys_runs::extend(
         alloc,

@@ -1,22 +1,22 @@
 ghost use Rattle.std.specs.Prelude.{◌≡◌};
-ghost use Rattle.vvmm_call.specs.Answer.{power_status, stopped_status};
+ghost use Rattle.vvmm_call.specs.Answer.{power_status, fault_status};
 
 use sys_system::PowerFault;
-use vvmm_files::{Status, Stop};
+use vvmm_files::{Status, CommandFault};
 
 /// The answer of a command that stops.
-pub fn stopped_status(stop: Stop) -> Status
-    ensures { result ≡ stopped_status stop }
+pub fn fault_status(stop: CommandFault) -> Status
+    ensures { result ≡ fault_status stop }
 {
     match stop {
-        Stop::Missing(name) => Status::Missing(name),
-        Stop::TooLong(name) => Status::TooLong(name),
-        Stop::ShelfFault => Status::ShelfFault,
-        Stop::Config(fault) => Status::Config(fault),
-        Stop::Script(fault) => Status::Script(fault),
-        Stop::SnapSize => Status::SnapSize,
-        Stop::Snap(fault) => Status::Snap(fault),
-        Stop::NoMemory => Status::NoMemory,
+        CommandFault::Missing(name) => Status::Missing(name),
+        CommandFault::TooLong(name) => Status::TooLong(name),
+        CommandFault::ShelfFault => Status::ShelfFault,
+        CommandFault::Config(fault) => Status::Config(fault),
+        CommandFault::Script(fault) => Status::Script(fault),
+        CommandFault::SnapSize => Status::SnapSize,
+        CommandFault::Snap(fault) => Status::Snap(fault),
+        CommandFault::NoMemory => Status::NoMemory,
     }
 }
 

@@ -10,7 +10,7 @@ use crate::loading::load;
 use crate::playing::{close, play};
 use crate::report::check_line;
 use crate::snaps::{extend, resume, save};
-use crate::stop::stopped_status;
+use crate::stop::fault_status;
 use crate::traces::trace;
 use std::alloc::Global;
 use sys_audit_check::check_audit;
@@ -52,7 +52,7 @@ fn solo<H: Hardware, S: Shelf, O: Sink, L: Lines>(
             out,
             &mut NoProgress,
         ),
-        Err(stop) => stopped_status(stop),
+        Err(stop) => fault_status(stop),
     }
 }
 
@@ -83,7 +83,7 @@ fn run<H: Hardware, S: Shelf, O: Sink, P: Progress, L: Lines>(
             out,
             progress,
         ),
-        Err(stop) => stopped_status(stop),
+        Err(stop) => fault_status(stop),
     }
 }
 
@@ -93,7 +93,7 @@ fn check<S: Shelf, O: Sink>(alloc: Global, name: &FileName, shelf: &mut S, out: 
 {
     match fetch_config(alloc, shelf, name) {
         Ok(config) => close(None, check_line(&config).bytes(), out),
-        Err(stop) => stopped_status(stop),
+        Err(stop) => fault_status(stop),
     }
 }
 
@@ -103,7 +103,7 @@ fn migrate<S: Shelf, O: Sink>(alloc: Global, name: &FileName, shelf: &mut S, out
 {
     let config = match fetch_config(alloc, shelf, name) {
         Ok(config) => config,
-        Err(stop) => return stopped_status(stop),
+        Err(stop) => return fault_status(stop),
     };
     match migrate_text(alloc, &config) {
         Ok(text) => close(None, text.as_slice(), out),
@@ -117,7 +117,7 @@ fn flow<S: Shelf, O: Sink>(alloc: Global, name: &FileName, shelf: &mut S, out: &
 {
     let config = match fetch_config(alloc, shelf, name) {
         Ok(config) => config,
-        Err(stop) => return stopped_status(stop),
+        Err(stop) => return fault_status(stop),
     };
     match report(alloc, &config) {
         Ok(lines) => close(None, lines.as_slice(), out),
@@ -131,7 +131,7 @@ fn draw<S: Shelf, O: Sink>(alloc: Global, name: &FileName, shelf: &mut S, out: &
 {
     let config = match fetch_config(alloc, shelf, name) {
         Ok(config) => config,
-        Err(stop) => return stopped_status(stop),
+        Err(stop) => return fault_status(stop),
     };
     match drawing(alloc, &config) {
         Ok(picture) => close(None, picture.as_slice(), out),
@@ -145,7 +145,7 @@ fn audit<S: Shelf, O: Sink>(alloc: Global, order: &AuditOrder, shelf: &mut S, ou
 {
     let recorded = match fetch_audit(alloc, shelf, order) {
         Ok(recorded) => recorded,
-        Err(stop) => return stopped_status(stop),
+        Err(stop) => return fault_status(stop),
     };
     match check_audit(&recorded.config, recorded.bytes.as_slice()) {
         Ok(()) => close(None, b"accepted\n", out),

@@ -9,7 +9,7 @@ ghost use Rattle.vvmm_call.specs.Summary.{summary};
 
 use crate::playing::{close, done_status};
 use crate::report::summary;
-use crate::stop::{power_status, stopped_status};
+use crate::stop::{power_status, fault_status};
 use std::alloc::Global;
 use sys_trace::Traced;
 use vax_hw::Hardware;
@@ -50,7 +50,7 @@ pub fn trace<H: Hardware, S: Shelf, O: Sink, L: Lines>(
 {
     let inputs = match solo_inputs(alloc, order, shelf) {
         Ok(inputs) => inputs,
-        Err(stop) => return stopped_status(stop),
+        Err(stop) => return fault_status(stop),
     };
     let traced = sys_trace::trace(
         alloc,

@@ -7,7 +7,7 @@ use Rattle.sys_devices.specs.declared.device.Device.{Device}
 use Rattle.sys_devices.specs.declared.device.Device.TheVariants as devices
 use Rattle.vvmm_files.specs.Texts.{fault_text}
 use Rattle.vvmm_files.specs.declared.status.Status.{Status}
-use Rattle.vvmm_files.specs.declared.status.Status.TheVariants.{Done, Words, Missing, TooLong, ShelfFault, Config as ConfigRefused, Script as ScriptRefused, Image, VolumeSize, DriveIn, Device as DeviceFault, Asm, SnapSize, Snap, Audit, OutFault, KeyFault, NoMemory}
+use Rattle.vvmm_files.specs.declared.status.Status.TheVariants.{Done, Words, Missing, TooLong, ShelfFault, Config as ConfigRefused, Script as ScriptRefused, Image, VolumeSize, DriveIn, DeviceFault, Asm, SnapSize, Snap, Audit, OutFault, KeyFault, NoMemory}
 
 abbrev pub device_text : Device → List ℕ
 device_text (devices.Line n) = codes "device line " ++ decimal n

@@ -15,9 +15,9 @@ use Rattle.sys_script.specs.declared.event.ScriptFault.{ScriptFault}
 use Rattle.sys_snap.specs.Misfits.{misfit_in}
 use Rattle.sys_snap.specs.Snap.{IsSnap}
 use Rattle.sys_snap.specs.declared.fault.SnapFault.{SnapFault}
-use Rattle.vvmm_files.specs.Words.{AuditAsked, LiveAsked, ResumeAsked, RunAsked}
-use Rattle.vvmm_files.specs.declared.stop.Stop.{Stop}
-use Rattle.vvmm_files.specs.declared.stop.Stop.TheVariants.{Missing, TooLong, ShelfFault, Config as ConfigRefused, Script as ScriptRefused, SnapSize, Snap as SnapRefused, NoMemory}
+use Rattle.vvmm_files.specs.Words.{AuditWords, LiveWords, ResumeWords, RunWords}
+use Rattle.vvmm_files.specs.declared.stop.CommandFault.{CommandFault}
+use Rattle.vvmm_files.specs.declared.stop.CommandFault.TheVariants.{Missing, TooLong, ShelfFault, Config as ConfigRefused, Script as ScriptRefused, SnapSize, Snap as SnapRefused, NoMemory}
 
 -- the file that was fetched, within the limit
 pub record IsRead (files : Option (List File)) (name bytes : List ℕ) : Type 0 where
@@ -44,19 +44,19 @@ AreImages files (row ∷ rows) [] = ⊥
 AreImages files (row ∷ rows) (image ∷ images) = IsRead files row.image image × AreImages files rows images
 
 -- all files of a run were fetched, and stand for these
-pub record HasAll (files : Option (List File)) (a : RunAsked) (c : Config) (es : List Event) (images : List (List ℕ)) : Type 0 where
+pub record HasAll (files : Option (List File)) (a : RunWords) (c : Config) (es : List Event) (images : List (List ℕ)) : Type 0 where
   pub config : HasConfig files a.config c
   pub script : HasScript files a.script es
   pub fetched : AreImages files c.guests images
 
 -- The script is fetched next: the configuration is accepted.
-pub record IsScript (files : Option (List File)) (a : RunAsked) (name : List ℕ) : Type 0 where
+pub record IsScript (files : Option (List File)) (a : RunWords) (name : List ℕ) : Type 0 where
   pub config : Config
   pub has : HasConfig files a.config config
   pub is : name ≡ a.script
 
 -- A guest's image is fetched next: configuration and script are accepted, and the images of the guests before it were fetched.
-pub record IsImage (files : Option (List File)) (a : RunAsked) (name : List ℕ) : Type 0 where
+pub record IsImage (files : Option (List File)) (a : RunWords) (name : List ℕ) : Type 0 where
   pub config : Config
   pub events : List Event
   pub images : List (List ℕ)
@@ -69,7 +69,7 @@ pub record IsImage (files : Option (List File)) (a : RunAsked) (name : List ℕ)
   pub is : name ≡ row.image
 
 -- a file of a run that is fetched, as all before it were
-abbrev pub IsNextFile : Option (List File) → RunAsked → List ℕ → Type 0
+abbrev pub IsNextFile : Option (List File) → RunWords → List ℕ → Type 0
 IsNextFile files a name = (name ≡ a.config) ⊎ (IsScript files a name ⊎ IsImage files a name)
 
 -- pages of memory of all guests, and blocks of all volumes
@@ -86,22 +86,22 @@ abbrev pub IsTooLarge : List ℕ → Config → Type 0
 IsTooLarge text c = (16000000 < 512 * pages_and_blocks c) ⊎ (262144 < length text)
 
 -- A guest's image is fetched next, to be saved: besides, the snapshot can be written.
-pub record IsImageToSave (files : Option (List File)) (a : RunAsked) (name : List ℕ) : Type 0 where
+pub record IsImageToSave (files : Option (List File)) (a : RunWords) (name : List ℕ) : Type 0 where
   pub image : IsImage files a name
   pub fits : FitsSnap image.has_config.text image.config
 
 -- a file of a run that is saved, which is fetched, as all before it were
-abbrev pub IsNextToSave : Option (List File) → RunAsked → List ℕ → Type 0
+abbrev pub IsNextToSave : Option (List File) → RunWords → List ℕ → Type 0
 IsNextToSave files a name = (name ≡ a.config) ⊎ (IsScript files a name ⊎ IsImageToSave files a name)
 
 -- all files of a run that is saved were fetched, and the snapshot can be written with the text of its configuration
-pub record HasAllToSave (files : Option (List File)) (a : RunAsked) (text : List ℕ) (c : Config) (es : List Event) (images : List (List ℕ)) : Type 0 where
+pub record HasAllToSave (files : Option (List File)) (a : RunWords) (text : List ℕ) (c : Config) (es : List Event) (images : List (List ℕ)) : Type 0 where
   pub all : HasAll files a c es images
   pub is : text ≡ all.config.text
   pub fits : FitsSnap text c
 
 -- configuration and script are accepted, and the snapshot would be too large
-pub record HasNoRoom (files : Option (List File)) (a : RunAsked) : Type 0 where
+pub record HasNoRoom (files : Option (List File)) (a : RunWords) : Type 0 where
   pub config : Config
   pub events : List Event
   pub has_config : HasConfig files a.config config
@@ -121,34 +121,34 @@ pub record IsSnapRefused (files : Option (List File)) (name : List ℕ) (f : Sna
   pub refused : misfit_in bytes ≡ Some f.place
 
 -- both files of a resumed run were fetched, and stand for these
-pub record HasBoth (files : Option (List File)) (a : ResumeAsked) (m : Moment) (es : List Event) : Type 0 where
+pub record HasBoth (files : Option (List File)) (a : ResumeWords) (m : Moment) (es : List Event) : Type 0 where
   pub snap : HasSnap files a.snap m
   pub script : HasScript files a.script es
 
 -- The script is fetched next: the snapshot is accepted.
-pub record IsScriptToResume (files : Option (List File)) (a : ResumeAsked) (name : List ℕ) : Type 0 where
+pub record IsScriptToResume (files : Option (List File)) (a : ResumeWords) (name : List ℕ) : Type 0 where
   pub moment : Moment
   pub has : HasSnap files a.snap moment
   pub is : name ≡ a.script
 
 -- snapshot and script are accepted, and no snapshot can have as many rounds as there would be
-pub record HasTooMany (files : Option (List File)) (a : ResumeAsked) : Type 0 where
+pub record HasTooMany (files : Option (List File)) (a : ResumeWords) : Type 0 where
   pub moment : Moment
   pub events : List Event
   pub has : HasBoth files a moment events
   pub many : 1000000 < moment.made + a.rounds
 
 -- a file of a resumed run that is fetched, as that before it was
-abbrev pub IsNextToResume : Option (List File) → ResumeAsked → List ℕ → Type 0
+abbrev pub IsNextToResume : Option (List File) → ResumeWords → List ℕ → Type 0
 IsNextToResume files a name = (name ≡ a.snap) ⊎ IsScriptToResume files a name
 
 -- the files of a run that is typed were fetched, and stand for these
-pub record HasAllToLive (files : Option (List File)) (a : LiveAsked) (c : Config) (images : List (List ℕ)) : Type 0 where
+pub record HasAllToLive (files : Option (List File)) (a : LiveWords) (c : Config) (images : List (List ℕ)) : Type 0 where
   pub config : HasConfig files a.config c
   pub fetched : AreImages files c.guests images
 
 -- A guest's image is fetched next: the configuration is accepted, and the images of the guests before it were fetched.
-pub record IsImageToLive (files : Option (List File)) (a : LiveAsked) (name : List ℕ) : Type 0 where
+pub record IsImageToLive (files : Option (List File)) (a : LiveWords) (name : List ℕ) : Type 0 where
   pub config : Config
   pub images : List (List ℕ)
   pub guest : ℕ
@@ -159,17 +159,17 @@ pub record IsImageToLive (files : Option (List File)) (a : LiveAsked) (name : Li
   pub is : name ≡ row.image
 
 -- a file of a run that is typed which is fetched, as all before it were
-abbrev pub IsNextToLive : Option (List File) → LiveAsked → List ℕ → Type 0
+abbrev pub IsNextToLive : Option (List File) → LiveWords → List ℕ → Type 0
 IsNextToLive files a name = (name ≡ a.config) ⊎ IsImageToLive files a name
 
 -- what is to be checked is fetched next: the configuration is accepted
-pub record IsRecorded (files : Option (List File)) (a : AuditAsked) (name : List ℕ) : Type 0 where
+pub record IsRecorded (files : Option (List File)) (a : AuditWords) (name : List ℕ) : Type 0 where
   pub config : Config
   pub has : HasConfig files a.config config
   pub is : name ≡ a.recorded
 
 -- a file of an audit that is fetched, as all before it were
-abbrev pub IsNextOfAudit : Option (List File) → AuditAsked → List ℕ → Type 0
+abbrev pub IsNextOfAudit : Option (List File) → AuditWords → List ℕ → Type 0
 IsNextOfAudit files a name = (name ≡ a.config) ⊎ IsRecorded files a name
 
 -- a configuration's text was fetched, and is refused
@@ -185,7 +185,7 @@ pub record IsScriptRefused (files : Option (List File)) (name : List ℕ) (f : S
   pub refused : script_of text ≡ Err f
 
 -- why the fetch of one file gives no bytes; counts are the shelf's faults before and after
-abbrev pub StopsFile : Option (List File) → List ℕ → ℕ → ℕ → Stop → Type 0
+abbrev pub StopsFile : Option (List File) → List ℕ → ℕ → ℕ → CommandFault → Type 0
 StopsFile files name before now (Missing n) = (n ≡ name) × Lacks files n before now
 StopsFile files name before now (TooLong n) = (n ≡ name) × HasTooLong files n before now
 StopsFile files name before now ShelfFault = Rose before now
@@ -196,7 +196,7 @@ StopsFile files name before now (SnapRefused f) = ⊥
 StopsFile files name before now NoMemory = Unit {0}
 
 -- why a file gives no configuration
-abbrev pub StopsConfig : Option (List File) → List ℕ → ℕ → ℕ → Stop → Type 0
+abbrev pub StopsConfig : Option (List File) → List ℕ → ℕ → ℕ → CommandFault → Type 0
 StopsConfig files name before now (Missing n) = (n ≡ name) × Lacks files n before now
 StopsConfig files name before now (TooLong n) = (n ≡ name) × HasTooLong files n before now
 StopsConfig files name before now ShelfFault = Rose before now
@@ -207,7 +207,7 @@ StopsConfig files name before now (SnapRefused f) = ⊥
 StopsConfig files name before now NoMemory = Unit {0}
 
 -- why a run's files give no run
-abbrev pub StopsRun : Option (List File) → RunAsked → ℕ → ℕ → Stop → Type 0
+abbrev pub StopsRun : Option (List File) → RunWords → ℕ → ℕ → CommandFault → Type 0
 StopsRun files a before now (Missing n) = IsNextFile files a n × Lacks files n before now
 StopsRun files a before now (TooLong n) = IsNextFile files a n × HasTooLong files n before now
 StopsRun files a before now ShelfFault = Rose before now
@@ -218,7 +218,7 @@ StopsRun files a before now (SnapRefused f) = ⊥
 StopsRun files a before now NoMemory = Unit {0}
 
 -- why a run's files give no run to be saved
-abbrev pub StopsSave : Option (List File) → RunAsked → ℕ → ℕ → Stop → Type 0
+abbrev pub StopsSave : Option (List File) → RunWords → ℕ → ℕ → CommandFault → Type 0
 StopsSave files a before now (Missing n) = IsNextToSave files a n × Lacks files n before now
 StopsSave files a before now (TooLong n) = IsNextToSave files a n × HasTooLong files n before now
 StopsSave files a before now ShelfFault = Rose before now
@@ -229,7 +229,7 @@ StopsSave files a before now (SnapRefused f) = ⊥
 StopsSave files a before now NoMemory = Unit {0}
 
 -- why snapshot and script give no run to go on with
-abbrev pub StopsResume : Option (List File) → ResumeAsked → ℕ → ℕ → Stop → Type 0
+abbrev pub StopsResume : Option (List File) → ResumeWords → ℕ → ℕ → CommandFault → Type 0
 StopsResume files a before now (Missing n) = IsNextToResume files a n × Lacks files n before now
 StopsResume files a before now (TooLong n) = IsNextToResume files a n × HasTooLong files n before now
 StopsResume files a before now ShelfFault = Rose before now
@@ -240,12 +240,12 @@ StopsResume files a before now (SnapRefused f) = IsSnapRefused files a.snap f ×
 StopsResume files a before now NoMemory = Unit {0}
 
 -- .. and is saved
-abbrev pub StopsExtend : Option (List File) → ResumeAsked → ℕ → ℕ → Stop → Type 0
+abbrev pub StopsExtend : Option (List File) → ResumeWords → ℕ → ℕ → CommandFault → Type 0
 StopsExtend files a before now SnapSize = HasTooMany files a × (now ≡ before)
 StopsExtend files a before now stop = StopsResume files a before now stop
 
 -- why an audit's files give nothing to check
-abbrev pub StopsAudit : Option (List File) → AuditAsked → ℕ → ℕ → Stop → Type 0
+abbrev pub StopsAudit : Option (List File) → AuditWords → ℕ → ℕ → CommandFault → Type 0
 StopsAudit files a before now (Missing n) = IsNextOfAudit files a n × Lacks files n before now
 StopsAudit files a before now (TooLong n) = IsNextOfAudit files a n × HasTooLong files n before now
 StopsAudit files a before now ShelfFault = Rose before now
@@ -256,7 +256,7 @@ StopsAudit files a before now (SnapRefused f) = ⊥
 StopsAudit files a before now NoMemory = Unit {0}
 
 -- why the files of a run that is typed give none
-abbrev pub StopsLive : Option (List File) → LiveAsked → ℕ → ℕ → Stop → Type 0
+abbrev pub StopsLive : Option (List File) → LiveWords → ℕ → ℕ → CommandFault → Type 0
 StopsLive files a before now (Missing n) = IsNextToLive files a n × Lacks files n before now
 StopsLive files a before now (TooLong n) = IsNextToLive files a n × HasTooLong files n before now
 StopsLive files a before now ShelfFault = Rose before now

@@ -3,7 +3,7 @@ use Rattle.std.specs.Prelude.{ℕ, [], ◌∷◌, true, false, codes, Some, None
 use Rattle.vv_class.specs.declared.class.AccessClass.{AccessClass}
 use Rattle.sys_objects.specs.declared.records.Config.{Config}
 use Rattle.sys_objects.specs.declared.records.GuestRow.{GuestRow}
-use Rattle.vvmm_files.specs.Words.{Asked}
+use Rattle.vvmm_files.specs.Words.{SoloWords}
 
 -- the class that flows into every other of its integrity
 abbrev pub lowest : AccessClass
@@ -17,7 +17,7 @@ abbrev pub load_address : ℕ
 load_address = 512
 
 -- the guest A, of the file's image; its console is the first terminal, its dump goes to line 1
-abbrev pub solo_guest : Asked → GuestRow
+abbrev pub solo_guest : SoloWords → GuestRow
 solo_guest a = record {
   name = codes "A";
   class = lowest;
@@ -35,7 +35,7 @@ solo_guest a = record {
 }
 
 -- that guest alone, and the terminal T on line 0
-abbrev pub solo_config : Asked → Config
+abbrev pub solo_config : SoloWords → Config
 solo_config a = record {
   slice = a.steps;
   audit = None;

@@ -8,45 +8,45 @@ use Rattle.vvmm_files.specs.declared.words.Request.{Request}
 use Rattle.vvmm_files.specs.declared.words.Request.TheVariants.{Solo, Trace, Run, Save, Resume, Extend, Live, Load, Check, Migrate, Audit, Flow, Draw, Asm, List as Listing, Dis}
 
 -- `solo IMAGE STEPS`, and `trace` likewise
-pub record Asked : Type 0 where
+pub record SoloWords : Type 0 where
   pub image : List ℕ
   pub steps : ℕ
 
 -- `run CONFIG SCRIPT ROUNDS`, and `save` likewise
-pub record RunAsked : Type 0 where
+pub record RunWords : Type 0 where
   pub config : List ℕ
   pub script : List ℕ
   pub rounds : ℕ
 
 -- `resume SNAP SCRIPT ROUNDS`, and `extend` likewise
-pub record ResumeAsked : Type 0 where
+pub record ResumeWords : Type 0 where
   pub snap : List ℕ
   pub script : List ℕ
   pub rounds : ℕ
 
 -- `live CONFIG ROUNDS`
-pub record LiveAsked : Type 0 where
+pub record LiveWords : Type 0 where
   pub config : List ℕ
   pub rounds : ℕ
 
 -- `audit CONFIG RECORD`
-pub record AuditAsked : Type 0 where
+pub record AuditWords : Type 0 where
   pub config : List ℕ
   pub recorded : List ℕ
 
 -- what each command is given
 pub data Wanted : Type 0 where
-  WantsSolo : Asked → Wanted
-  WantsTrace : Asked → Wanted
-  WantsRun : RunAsked → Wanted
-  WantsSave : RunAsked → Wanted
-  WantsResume : ResumeAsked → Wanted
-  WantsExtend : ResumeAsked → Wanted
-  WantsLive : LiveAsked → Wanted
+  WantsSolo : SoloWords → Wanted
+  WantsTrace : SoloWords → Wanted
+  WantsRun : RunWords → Wanted
+  WantsSave : RunWords → Wanted
+  WantsResume : ResumeWords → Wanted
+  WantsExtend : ResumeWords → Wanted
+  WantsLive : LiveWords → Wanted
   WantsLoad : ℕ → Wanted
   WantsCheck : List ℕ → Wanted
   WantsMigration : List ℕ → Wanted
-  WantsAudit : AuditAsked → Wanted
+  WantsAudit : AuditWords → Wanted
   WantsFlow : List ℕ → Wanted
   WantsDrawing : List ℕ → Wanted
   WantsBytes : List ℕ → Wanted
@@ -83,17 +83,17 @@ abbrev pub word_wanted : List ℕ → List ℕ → Option Wanted
 word_wanted command word = if is_word command (codes "load") then option_map (λ n. WantsLoad n) (decimal_of word 4294967295) else file_wanted command word
 
 -- this command, a file's name, and a number to 100,000
-abbrev pub steps_asked : (name command image steps : List ℕ) → Option Asked
+abbrev pub steps_asked : (name command image steps : List ℕ) → Option SoloWords
 steps_asked name command image steps =
     if is_word command name && is_file_name image then option_map (λ n. record { image = image; steps = n }) (number_from_one steps 100000) else None
 
 -- `audit`, and two files' names
-abbrev pub audit_asked : List ℕ → List ℕ → List ℕ → Option AuditAsked
+abbrev pub audit_asked : List ℕ → List ℕ → List ℕ → Option AuditWords
 audit_asked command config recorded =
     if is_word command (codes "audit") && is_file_name config && is_file_name recorded then Some (record { config = config; recorded = recorded }) else None
 
 -- a file's name, and a number to 1,000,000
-abbrev pub live_asked : List ℕ → List ℕ → Option LiveAsked
+abbrev pub live_asked : List ℕ → List ℕ → Option LiveWords
 live_asked config rounds = if is_file_name config then option_map (λ n. record { config = config; rounds = n }) (number_from_one rounds 1000000) else None
 
 -- `audit` and its two files; `live`, a configuration and a number; or `solo` or `trace`, an image and a number
@@ -105,11 +105,11 @@ two_wanted command first second =
     else option_map (λ a. WantsSolo a) (steps_asked (codes "solo") command first second)
 
 -- two files' names, and a number to 1,000,000
-abbrev pub run_asked : List ℕ → List ℕ → List ℕ → Option RunAsked
+abbrev pub run_asked : List ℕ → List ℕ → List ℕ → Option RunWords
 run_asked config script rounds =
     if is_file_name config && is_file_name script then option_map (λ n. record { config = config; script = script; rounds = n }) (number_from_one rounds 1000000) else None
 
-abbrev pub resume_asked : List ℕ → List ℕ → List ℕ → Option ResumeAsked
+abbrev pub resume_asked : List ℕ → List ℕ → List ℕ → Option ResumeWords
 resume_asked snap script rounds =
     if is_file_name snap && is_file_name script then option_map (λ n. record { snap = snap; script = script; rounds = n }) (number_from_one rounds 1000000) else None
 

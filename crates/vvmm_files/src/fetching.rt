@@ -9,7 +9,7 @@ ghost use Rattle.sys_state.specs.Run.{Moment};
 ghost use Rattle.vvmm_files.specs.Fetches.{FetchesAudit, FetchesConfig, FetchesExtend, FetchesFile, FetchesImages, FetchesLive, FetchesResume, FetchesRun, FetchesSave, FetchesScript, FetchesSnap, FetchesText, MeansSnap};
 ghost use Rattle.vvmm_files.specs.Files.{FitsSnap, IsTooLarge};
 
-use crate::stop::Stop;
+use crate::stop::CommandFault;
 use crate::words::{AuditOrder, LiveOrder, ResumeOrder, RunOrder};
 use std::alloc::Global;
 use sys_config::read_config;
@@ -20,16 +20,16 @@ use vv_base::{FileName, get_u32};
 use vv_io::{Shelf, ShelfFault};
 
 /// The bytes of a file.
-pub fn fetch_file<S: Shelf>(alloc: Global, shelf: &mut S, name: &FileName) -> Result<Vec<u8>, Stop>
+pub fn fetch_file<S: Shelf>(alloc: Global, shelf: &mut S, name: &FileName) -> Result<Vec<u8>, CommandFault>
     ensures fetches { FetchesFile (S.files shelf.old) name.now (S.faults shelf.old) (S.faults shelf.new) result }
     ensures files { S.files shelf.new ≡ S.files shelf.old }
 {
     match shelf.fetch(alloc, name) {
         Ok(bytes) => Ok(bytes),
-        Err(ShelfFault::Missing) => Err(Stop::Missing(name.copied())),
-        Err(ShelfFault::TooLong) => Err(Stop::TooLong(name.copied())),
-        Err(ShelfFault::Failed) => Err(Stop::ShelfFault),
-        Err(ShelfFault::NoMemory) => Err(Stop::NoMemory),
+        Err(ShelfFault::Missing) => Err(CommandFault::Missing(name.copied())),
+        Err(ShelfFault::TooLong) => Err(CommandFault::TooLong(name.copied())),
+        Err(ShelfFault::Failed) => Err(CommandFault::ShelfFault),
+        Err(ShelfFault::NoMemory) => Err(CommandFault::NoMemory),
     }
 }
 
@@ -41,7 +41,7 @@ pub struct Read {
 }
 
 /// The configuration of a file, and its text.
-fn fetch_text<S: Shelf>(alloc: Global, shelf: &mut S, name: &FileName) -> Result<Read, Stop>
+fn fetch_text<S: Shelf>(alloc: Global, shelf: &mut S, name: &FileName) -> Result<Read, CommandFault>
     ensures fetches { FetchesText (S.files shelf.old) name.now (S.faults shelf.old) (S.faults shelf.new) result }
     ensures files { S.files shelf.new ≡ S.files shelf.old }
     ensures accepted { IfOk result (λ x. IsConfig x.config) }
@@ -49,13 +49,13 @@ fn fetch_text<S: Shelf>(alloc: Global, shelf: &mut S, name: &FileName) -> Result
     let text = fetch_file(alloc, shelf, name)?;
     match read_config(alloc, text.as_slice()) {
         Ok(config) => Ok(Read { text, config }),
-        Err(ConfigError::Fault(fault)) => Err(Stop::Config(fault)),
-        Err(ConfigError::NoMemory) => Err(Stop::NoMemory),
+        Err(ConfigError::Fault(fault)) => Err(CommandFault::Config(fault)),
+        Err(ConfigError::NoMemory) => Err(CommandFault::NoMemory),
     }
 }
 
 /// The configuration of a file.
-pub fn fetch_config<S: Shelf>(alloc: Global, shelf: &mut S, name: &FileName) -> Result<Config, Stop>
+pub fn fetch_config<S: Shelf>(alloc: Global, shelf: &mut S, name: &FileName) -> Result<Config, CommandFault>
     ensures fetches { FetchesConfig (S.files shelf.old) name.now (S.faults shelf.old) (S.faults shelf.new) result }
     ensures files { S.files shelf.new ≡ S.files shelf.old }
     ensures accepted { IfOk result (λ c. IsConfig c) }
@@ -65,7 +65,7 @@ pub fn fetch_config<S: Shelf>(alloc: Global, shelf: &mut S, name: &FileName) -> 
 }
 
 /// The events of a file.
-fn fetch_script<S: Shelf>(alloc: Global, shelf: &mut S, name: &FileName) -> Result<Vec<Event>, Stop>
+fn fetch_script<S: Shelf>(alloc: Global, shelf: &mut S, name: &FileName) -> Result<Vec<Event>, CommandFault>
     ensures fetches { FetchesScript (S.files shelf.old) name.now (S.faults shelf.old) (S.faults shelf.new) result }
     ensures files { S.files shelf.new ≡ S.files shelf.old }
     ensures ordered { IfOk result (λ es. AreEvents es.items) }
@@ -73,8 +73,8 @@ fn fetch_script<S: Shelf>(alloc: Global, shelf: &mut S, name: &FileName) -> Resu
     let text = fetch_file(alloc, shelf, name)?;
     match read_script(alloc, text.as_slice()) {
         Ok(events) => Ok(events),
-        Err(ScriptError::Fault(fault)) => Err(Stop::Script(fault)),
-        Err(ScriptError::NoMemory) => Err(Stop::NoMemory),
+        Err(ScriptError::Fault(fault)) => Err(CommandFault::Script(fault)),
+        Err(ScriptError::NoMemory) => Err(CommandFault::NoMemory),
     }
 }
 
@@ -83,7 +83,7 @@ fn fetch_images<S: Shelf>(
     alloc: Global,
     shelf: &mut S,
     guests: &[GuestRow],
-) -> Result<Vec<Vec<u8>>, Stop>
+) -> Result<Vec<Vec<u8>>, CommandFault>
     ensures fetches { FetchesImages (S.files shelf.old) guests.now (S.faults shelf.old) (S.faults shelf.new) result }
     ensures files { S.files shelf.new ≡ S.files shelf.old }
 {
@@ -105,7 +105,7 @@ pub struct Inputs {
 
 /// Fetches the configuration, the script, and the images in the order of the guests. What is fetched first is read first, and the
 /// first that fails is answered.
-pub fn fetch_run<S: Shelf>(alloc: Global, shelf: &mut S, order: &RunOrder) -> Result<Inputs, Stop>
+pub fn fetch_run<S: Shelf>(alloc: Global, shelf: &mut S, order: &RunOrder) -> Result<Inputs, CommandFault>
     ensures fetches { FetchesRun (S.files shelf.old) (record { config = order.now.config; script = order.now.script; rounds = order.now.rounds }) (S.faults shelf.old) (S.faults shelf.new) result }
     ensures accepted { IfOk result (λ x. IsConfig x.config) }
     ensures ordered { IfOk result (λ x. AreEvents x.events.items) }
@@ -162,7 +162,7 @@ pub fn fetch_to_save<S: Shelf>(
     alloc: Global,
     shelf: &mut S,
     order: &RunOrder,
-) -> Result<InputsToSave, Stop>
+) -> Result<InputsToSave, CommandFault>
     ensures fetches { FetchesSave (S.files shelf.old) (record { config = order.now.config; script = order.now.script; rounds = order.now.rounds }) (S.faults shelf.old) (S.faults shelf.new) result }
     ensures means { IfOk result (λ x. config_of x.text.items ≡ Ok x.inputs.config) }
     ensures short { IfOk result (λ x. length x.text.items ≤ 262144) }
@@ -173,7 +173,7 @@ pub fn fetch_to_save<S: Shelf>(
     let read = fetch_text(alloc, shelf, &order.config)?;
     let events = fetch_script(alloc, shelf, &order.script)?;
     if !fits_snap(read.text.as_slice(), &read.config) {
-        return Err(Stop::SnapSize);
+        return Err(CommandFault::SnapSize);
     }
     let images = fetch_images(alloc, shelf, read.config.guests.as_slice())?;
     Ok(InputsToSave {
@@ -187,15 +187,15 @@ pub fn fetch_to_save<S: Shelf>(
 }
 
 /// The snapshot that bytes are.
-fn snap_of(alloc: Global, bytes: &[u8]) -> Result<Snap, Stop>
+fn snap_of(alloc: Global, bytes: &[u8]) -> Result<Snap, CommandFault>
     requires { length bytes.now ≤ 16777216 }
     ensures means { MeansSnap bytes.now result }
     ensures held { IfOk result (λ snap. HoldsMoment snap) }
 {
     match read_snap(alloc, bytes) {
         Ok(snap) => Ok(snap),
-        Err(SnapError::Fault(fault)) => Err(Stop::Snap(fault)),
-        Err(SnapError::NoMemory) => Err(Stop::NoMemory),
+        Err(SnapError::Fault(fault)) => Err(CommandFault::Snap(fault)),
+        Err(SnapError::NoMemory) => Err(CommandFault::NoMemory),
     }
 }
 
@@ -225,7 +225,7 @@ pub struct ReadSnap {
 }
 
 /// The snapshot of a file, and its text.
-fn fetch_snap<S: Shelf>(alloc: Global, shelf: &mut S, name: &FileName) -> Result<ReadSnap, Stop>
+fn fetch_snap<S: Shelf>(alloc: Global, shelf: &mut S, name: &FileName) -> Result<ReadSnap, CommandFault>
     ensures fetches { FetchesSnap (S.files shelf.old) name.now (S.faults shelf.old) (S.faults shelf.new) result }
     ensures files { S.files shelf.new ≡ S.files shelf.old }
     ensures held { IfOk result (λ x. HoldsMoment x.snap) }
@@ -250,7 +250,7 @@ pub fn fetch_to_resume<S: Shelf>(
     alloc: Global,
     shelf: &mut S,
     order: &ResumeOrder,
-) -> Result<InputsToResume, Stop>
+) -> Result<InputsToResume, CommandFault>
     ensures fetches { FetchesResume (S.files shelf.old) (record { snap = order.now.snap; script = order.now.script; rounds = order.now.rounds }) (S.faults shelf.old) (S.faults shelf.new) result }
     ensures held { IfOk result (λ x. HoldsMoment x.snap) }
     ensures moment { IfOk result (λ x. IsMoment (snapshot_moment x.snap)) }
@@ -272,7 +272,7 @@ pub fn fetch_to_extend<S: Shelf>(
     alloc: Global,
     shelf: &mut S,
     order: &ResumeOrder,
-) -> Result<InputsToResume, Stop>
+) -> Result<InputsToResume, CommandFault>
     ensures fetches { FetchesExtend (S.files shelf.old) (record { snap = order.now.snap; script = order.now.script; rounds = order.now.rounds }) (S.faults shelf.old) (S.faults shelf.new) result }
     ensures held { IfOk result (λ x. HoldsMoment x.snap) }
     ensures moment { IfOk result (λ x. IsMoment (snapshot_moment x.snap)) }
@@ -283,7 +283,7 @@ pub fn fetch_to_extend<S: Shelf>(
 {
     let inputs = fetch_to_resume(alloc, shelf, order)?;
     if order.rounds > 1_000_000 - inputs.snap.round {
-        return Err(Stop::SnapSize);
+        return Err(CommandFault::SnapSize);
     }
     Ok(inputs)
 }
@@ -300,7 +300,7 @@ pub fn fetch_to_live<S: Shelf>(
     alloc: Global,
     shelf: &mut S,
     live: &LiveOrder,
-) -> Result<InputsToLive, Stop>
+) -> Result<InputsToLive, CommandFault>
     ensures fetches { FetchesLive (S.files shelf.old) (record { config = live.now.config; rounds = live.now.rounds }) (S.faults shelf.old) (S.faults shelf.new) result }
     ensures accepted { IfOk result (λ x. IsConfig x.config) }
     ensures images { IfOk result (λ x. length x.images.items ≡ length x.config.guests) }
@@ -323,7 +323,7 @@ pub fn fetch_audit<S: Shelf>(
     alloc: Global,
     shelf: &mut S,
     audit: &AuditOrder,
-) -> Result<Recorded, Stop>
+) -> Result<Recorded, CommandFault>
     ensures fetches { FetchesAudit (S.files shelf.old) (record { config = audit.now.config; recorded = audit.now.recorded }) (S.faults shelf.old) (S.faults shelf.new) result }
     ensures accepted { IfOk result (λ x. IsConfig x.config) }
     ensures within { IfOk result (λ x. length x.bytes.items ≤ 16777216) }

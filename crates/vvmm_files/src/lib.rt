@@ -18,5 +18,5 @@ pub use fetching::{
 };
 pub use solo::solo_inputs;
 pub use status::{Status, status_code, status_text};
-pub use stop::Stop;
+pub use stop::CommandFault;
 pub use words::{AuditOrder, LiveOrder, Order, Request, ResumeOrder, RunOrder, parse};

@@ -3,7 +3,7 @@ ghost use Rattle.vvmm_files.specs.Fetches.{FetchesSolo};
 ghost use Rattle.vvmm_files.specs.Solo.{lowest, solo_config};
 
 use crate::fetching::{Inputs, fetch_file};
-use crate::stop::Stop;
+use crate::stop::CommandFault;
 use crate::words::Order;
 use std::alloc::Global;
 use sys_objects::{Config, GuestRow, Rows, Terminal};
@@ -74,7 +74,7 @@ fn solo_config(alloc: Global, order: Order) -> Result<Config, NoMemory>
 }
 
 /// What the run of one guest is made of.
-pub fn solo_inputs<S: Shelf>(alloc: Global, order: Order, shelf: &mut S) -> Result<Inputs, Stop>
+pub fn solo_inputs<S: Shelf>(alloc: Global, order: Order, shelf: &mut S) -> Result<Inputs, CommandFault>
     ensures fetches { FetchesSolo (S.files shelf.old) (record { image = order.image; steps = order.steps }) (S.faults shelf.old) (S.faults shelf.new) result }
     ensures files { S.files shelf.new ≡ S.files shelf.old }
 {

@@ -34,7 +34,7 @@ pub enum Status {
     /// A drive failed while its volume was read.
     DriveIn(u8),
     /// A line or a drive failed.
-    Device(Device),
+    DeviceFault(Device),
     /// A line of the source is refused.
     Asm(AsmFault),
     /// A snapshot would have too many bytes or rounds.
@@ -136,7 +136,7 @@ pub fn status_text(s: &Status) -> Text<96>
         Status::Image(guest) => numbered(b"image ", u64::from(*guest)),
         Status::VolumeSize(volume) => numbered(b"volume size ", u64::from(*volume)),
         Status::DriveIn(drive) => numbered(b"drive ", u64::from(*drive)),
-        Status::Device(device) => device_text(*device),
+        Status::DeviceFault(device) => device_text(*device),
         Status::Asm(fault) => fault_text(fault),
         Status::SnapSize => worded(b"snapshot size"),
         Status::Snap(fault) => numbered(b"snapshot at ", u64::from(fault.place)),
@@ -161,7 +161,7 @@ pub fn status_code(s: &Status) -> u8
         Status::Image(_) => 7,
         Status::VolumeSize(_) => 8,
         Status::DriveIn(_) => 9,
-        Status::Device(_) => 10,
+        Status::DeviceFault(_) => 10,
         Status::OutFault => 11,
         Status::NoMemory => 12,
         Status::TooLong(_) => 13,

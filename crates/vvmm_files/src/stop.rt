@@ -8,7 +8,7 @@ use vv_base::{FileName, NoMemory};
 
 /// Why a command stops before anything is shown.
 #[derive(Drop)]
-pub enum Stop {
+pub enum CommandFault {
     /// The shelf lacks a file.
     Missing(FileName),
     /// A file has more than 16,777,216 bytes.
@@ -27,32 +27,32 @@ pub enum Stop {
     NoMemory,
 }
 
-impl From<NoMemory> for Stop {
-    ghost use Rattle.vvmm_files.specs.declared.stop.Stop.TheVariants.{NoMemory as OutOfMemory};
+impl From<NoMemory> for CommandFault {
+    ghost use Rattle.vvmm_files.specs.declared.stop.CommandFault.TheVariants.{NoMemory as OutOfMemory};
 
     ghost from_gives = { λ _ e. e ≡ OutOfMemory };
 
-    fn from(_: NoMemory) -> Stop {
-        Stop::NoMemory
+    fn from(_: NoMemory) -> CommandFault {
+        CommandFault::NoMemory
     }
 }
 
-impl From<AllocError> for Stop {
-    ghost use Rattle.vvmm_files.specs.declared.stop.Stop.TheVariants.{NoMemory as OutOfMemory};
+impl From<AllocError> for CommandFault {
+    ghost use Rattle.vvmm_files.specs.declared.stop.CommandFault.TheVariants.{NoMemory as OutOfMemory};
 
     ghost from_gives = { λ _ e. e ≡ OutOfMemory };
 
-    fn from(_: AllocError) -> Stop {
-        Stop::NoMemory
+    fn from(_: AllocError) -> CommandFault {
+        CommandFault::NoMemory
     }
 }
 
-impl<T: Drop> From<AllocFailed<T>> for Stop {
-    ghost use Rattle.vvmm_files.specs.declared.stop.Stop.TheVariants.{NoMemory as OutOfMemory};
+impl<T: Drop> From<AllocFailed<T>> for CommandFault {
+    ghost use Rattle.vvmm_files.specs.declared.stop.CommandFault.TheVariants.{NoMemory as OutOfMemory};
 
     ghost from_gives = { λ _ e. e ≡ OutOfMemory };
 
-    fn from(_: AllocFailed<T>) -> Stop {
-        Stop::NoMemory
+    fn from(_: AllocFailed<T>) -> CommandFault {
+        CommandFault::NoMemory
     }
 }

@@ -35,7 +35,7 @@ use Rattle.sys_devices.specs.declared.device.Device.{Device}
 use Rattle.sys_system.specs.declared.power.PowerFault.{PowerFault}
 use Rattle.vvmm_call.specs.Answer.{AnswersLive, FollowsLive, Outside, PlaysLive, live_status, run_outside}
 use Rattle.vvmm_files.specs.Files.{AreImages, HasAllToLive, HasConfig}
-use Rattle.vvmm_files.specs.Words.{LiveAsked}
+use Rattle.vvmm_files.specs.Words.{LiveWords}
 use Rattle.vvmm_files.specs.declared.status.Status.TheVariants.{Done}
 use Rattle.vvmm_laws.proofs.Joined.{no_drive, no_line, not_down, not_stopped}
 use Rattle.vvmm_laws.proofs.Lives.{has_told}
@@ -100,7 +100,7 @@ record IsTyped (c : Config) (files : List File) (typed : List (List ℕ)) (o : O
   lines : (k : ℕ) → (line_at o.lines' k).shown ≡ shown_after (line_at o.lines k).shown (line_bytes x k)
   drives : All (λ row. (drive_at o.drives' row.drive).blocks ≡ known_after (drive_at o.drives row.drive).blocks (drive_blocks x row.drive)) c.volumes
 
-module _ (a : LiveAsked) (c : Config) (o : Outside) (p : Operator) (files : List File) (typed : List (List ℕ)) (told : o.files ≡ Some files) (has : HasConfig (Some files) a.config c) (taken : AreTaken typed p) where
+module _ (a : LiveWords) (c : Config) (o : Outside) (p : Operator) (files : List File) (typed : List (List ℕ)) (told : o.files ≡ Some files) (has : HasConfig (Some files) a.config c) (taken : AreTaken typed p) where
   module _ (q : (PlaysLive MissesArePaid) a Done o p) (lived : Lived) (x : Input) (same : x.config ≡ q.config) (held : x.images ≡ q.images) (lives : (Lives MissesArePaid) x a.rounds lived (run_outside o) p o.out q.shown) (none : lived.ran.failed ≡ None) (took : TookWell lives.typed p.keys p.keys') where
     all : HasAllToLive (Some files) a q.config q.images
     all = has_told o files a Done p q told

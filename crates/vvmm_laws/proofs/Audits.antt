@@ -9,17 +9,17 @@ use Rattle.sys_audit_check.specs.Lines.{Checks}
 use Rattle.sys_audit_check.specs.declared.fault.AuditFault.{AuditFault}
 use Rattle.sys_objects.specs.declared.errors.ConfigFault.{ConfigFault}
 use Rattle.sys_objects.specs.declared.records.Config.{Config}
-use Rattle.vvmm_call.specs.Answer.{AnswersCheck, ChecksAudit, shelf_and_sink, stopped_status}
+use Rattle.vvmm_call.specs.Answer.{AnswersCheck, ChecksAudit, shelf_and_sink, fault_status}
 use Rattle.vvmm_files.specs.Files.{HasConfig, IsConfigRefused, IsNextOfAudit, IsRead, StopsAudit}
-use Rattle.vvmm_files.specs.Words.{AuditAsked}
+use Rattle.vvmm_files.specs.Words.{AuditWords}
 use Rattle.vvmm_files.specs.declared.status.Status.{Status}
-use Rattle.vvmm_files.specs.declared.stop.Stop.{Stop}
-use Rattle.vvmm_files.specs.declared.stop.Stop.TheVariants.{Missing, TooLong, ShelfFault, Config as ConfigRefused, Script as ScriptRefused, SnapSize, Snap as SnapRefused, NoMemory}
+use Rattle.vvmm_files.specs.declared.stop.CommandFault.{CommandFault}
+use Rattle.vvmm_files.specs.declared.stop.CommandFault.TheVariants.{Missing, TooLong, ShelfFault, Config as ConfigRefused, Script as ScriptRefused, SnapSize, Snap as SnapRefused, NoMemory}
 use Rattle.vvmm_laws.proofs.Played.{closes_served}
 use Rattle.vvmm_laws.proofs.Told.{Unread, lacked, not_config, not_long, one_config, one_rule, one_text, read_as, too_long}
 use Rattle.vvmm_laws.specs.Complete.{CompletesAudit, IsLong, IsMissing, IsServed, IsTooLong, TellsAuditLine, TellsAuditMissing, TellsAuditRule, TellsAuditTooLong, TellsFirstBad, TellsRule}
 
-module _ (files : List File) (a : AuditAsked) where
+module _ (files : List File) (a : AuditWords) where
   -- where both files are read, or the configuration is refused, there is none that can't be read
   both_read : (n : List ℕ) (c : Config) (bytes : List ℕ) → HasConfig (Some files) a.config c → IsRead (Some files) a.recorded bytes → IsNextOfAudit (Some files) a n → Unread files n → ⊥
   both_read n c bytes has read (inl e) none = read_as files a.config n has.text e none has.read
@@ -36,9 +36,9 @@ module _ (files : List File) (a : AuditAsked) where
   same_next n m (inr s) (inl f) none gone = absurd (read_as files a.config m s.has.text f gone s.has.read)
   same_next n m (inr s) (inr t) none gone = s.is ∙ sym t.is
 
-module _ (files : List File) (a : AuditAsked) (before now : ℕ) (none : Rose before now → ⊥) where
+module _ (files : List File) (a : AuditWords) (before now : ℕ) (none : Rose before now → ⊥) where
   -- the fetch of an audit's files stops
-  served_stop : (stop : Stop) (c : Config) (bytes : List ℕ) → StopsAudit (Some files) a before now stop → HasConfig (Some files) a.config c → IsRead (Some files) a.recorded bytes → stopped_status stop ≡ stopped_status NoMemory
+  served_stop : (stop : CommandFault) (c : Config) (bytes : List ℕ) → StopsAudit (Some files) a before now stop → HasConfig (Some files) a.config c → IsRead (Some files) a.recorded bytes → fault_status stop ≡ fault_status NoMemory
   served_stop (Missing n) c bytes (next, lacks) has read = absurd (both_read files a n c bytes has read next (lacked files n lacks))
   served_stop (TooLong n) c bytes (next, long) has read = absurd (both_read files a n c bytes has read next (too_long files n long))
   served_stop ShelfFault c bytes rose has read = absurd (none rose)
@@ -48,7 +48,7 @@ module _ (files : List File) (a : AuditAsked) (before now : ℕ) (none : Rose be
   served_stop (SnapRefused f) c bytes h has read = absurd h
   served_stop NoMemory c bytes h has read = refl
 
-  missing_stop : (stop : Stop) (name : List ℕ) → StopsAudit (Some files) a before now stop → IsNextOfAudit (Some files) a name → held files name ≡ None → IsMissing name (stopped_status stop)
+  missing_stop : (stop : CommandFault) (name : List ℕ) → StopsAudit (Some files) a before now stop → IsNextOfAudit (Some files) a name → held files name ≡ None → IsMissing name (fault_status stop)
   missing_stop (Missing n) name (next, lacks) mine lack = same_next files a n name next mine (lacked files n lacks) (lacked files name lack)
   missing_stop (TooLong n) name (next, long) mine lack = not_long files name n (same_next files a name n mine next (lacked files name lack) (too_long files n long)) lack long
   missing_stop ShelfFault name rose mine lack = none rose
@@ -58,7 +58,7 @@ module _ (files : List File) (a : AuditAsked) (before now : ℕ) (none : Rose be
   missing_stop (SnapRefused f) name h mine lack = h
   missing_stop NoMemory name h mine lack = tt
 
-  long_stop : (stop : Stop) (name : List ℕ) → StopsAudit (Some files) a before now stop → IsNextOfAudit (Some files) a name → IsLong files name → IsTooLong name (stopped_status stop)
+  long_stop : (stop : CommandFault) (name : List ℕ) → StopsAudit (Some files) a before now stop → IsNextOfAudit (Some files) a name → IsLong files name → IsTooLong name (fault_status stop)
   long_stop (TooLong n) name (next, other) mine long = same_next files a n name next mine (too_long files n other) (too_long files name long)
   long_stop (Missing n) name (next, lacks) mine long = not_long files n name (same_next files a n name next mine (lacked files n lacks) (too_long files name long)) lacks long
   long_stop ShelfFault name rose mine long = none rose
@@ -68,7 +68,7 @@ module _ (files : List File) (a : AuditAsked) (before now : ℕ) (none : Rose be
   long_stop (SnapRefused f) name h mine long = h
   long_stop NoMemory name h mine long = tt
 
-  rule_stop : (stop : Stop) (f : ConfigFault) → StopsAudit (Some files) a before now stop → IsConfigRefused (Some files) a.config f → TellsRule f (stopped_status stop)
+  rule_stop : (stop : CommandFault) (f : ConfigFault) → StopsAudit (Some files) a before now stop → IsConfigRefused (Some files) a.config f → TellsRule f (fault_status stop)
   rule_stop (Missing n) f (next, lacks) refused = rule_read files a n f refused next (lacked files n lacks)
   rule_stop (TooLong n) f (next, long) refused = rule_read files a n f refused next (too_long files n long)
   rule_stop ShelfFault f rose refused = none rose
@@ -79,11 +79,11 @@ module _ (files : List File) (a : AuditAsked) (before now : ℕ) (none : Rose be
   rule_stop NoMemory f h refused = tt
 
 -- the shelf's files are known
-stops_told : (o : ShelfAndSink) (files : List File) (a : AuditAsked) (stop : Stop) → o.files ≡ Some files → StopsAudit o.files a o.shelf o.shelf' stop → StopsAudit (Some files) a o.shelf o.shelf' stop
+stops_told : (o : ShelfAndSink) (files : List File) (a : AuditWords) (stop : CommandFault) → o.files ≡ Some files → StopsAudit o.files a o.shelf o.shelf' stop → StopsAudit (Some files) a o.shelf o.shelf' stop
 stops_told o files a stop told why = subst (λ (f : Option (List File)). StopsAudit f a o.shelf o.shelf' stop) told why
 
 -- what was checked is what the shelf holds
-module _ (files : List File) (a : AuditAsked) (status : Status) (o : ShelfAndSink) (told : o.files ≡ Some files) (p : ChecksAudit a status o) where
+module _ (files : List File) (a : AuditWords) (status : Status) (o : ShelfAndSink) (told : o.files ≡ Some files) (p : ChecksAudit a status o) where
   has_told : HasConfig (Some files) a.config p.config
   has_told = subst (λ (f : Option (List File)). HasConfig f a.config p.config) told p.has
 

@@ -14,20 +14,20 @@ use Rattle.sys_objects.specs.declared.records.Config.{Config}
 use Rattle.sys_runs.specs.Ran.{RunOutside}
 use Rattle.sys_script.specs.declared.event.Event.{Event}
 use Rattle.sys_script.specs.declared.event.ScriptFault.{ScriptFault}
-use Rattle.vvmm_call.specs.Answer.{Outside, PlaysRun, run_outside, stopped_status}
+use Rattle.vvmm_call.specs.Answer.{Outside, PlaysRun, run_outside, fault_status}
 use Rattle.vvmm_files.specs.Files.{AreImages, HasAll, HasConfig, IsConfigRefused, IsNextFile, IsScriptRefused, StopsRun}
-use Rattle.vvmm_files.specs.Words.{RunAsked}
+use Rattle.vvmm_files.specs.Words.{RunWords}
 use Rattle.vvmm_files.specs.declared.status.Status.{Status}
-use Rattle.vvmm_files.specs.declared.stop.Stop.{Stop}
-use Rattle.vvmm_files.specs.declared.stop.Stop.TheVariants.{Missing, TooLong, ShelfFault, Config as ConfigRefused, Script as ScriptRefused, SnapSize, Snap as SnapRefused, NoMemory}
+use Rattle.vvmm_files.specs.declared.stop.CommandFault.{CommandFault}
+use Rattle.vvmm_files.specs.declared.stop.CommandFault.TheVariants.{Missing, TooLong, ShelfFault, Config as ConfigRefused, Script as ScriptRefused, SnapSize, Snap as SnapRefused, NoMemory}
 use Rattle.vvmm_laws.proofs.Nexts.{all_read, line_read, rule_read, same_next}
 use Rattle.vvmm_laws.proofs.Played.{NoDriveRose, drive_in_rose, plays_image, plays_names_drive, plays_names_line, plays_served, plays_size}
 use Rattle.vvmm_laws.proofs.Told.{lacked, not_config, not_long, not_script, one_config, one_images, one_line, one_rule, too_long}
 use Rattle.vvmm_laws.specs.Complete.{CompletesRun, IsImageOf, IsLong, IsMissing, IsServed, IsSizeOf, IsTooLong, TellsLine, TellsRule, TellsRunDriveFault, TellsRunImage, TellsRunLine, TellsRunLineFault, TellsRunMissing, TellsRunRule, TellsRunSize, TellsRunTooLong, line_at}
 
-module _ (files : List File) (a : RunAsked) (before now : ℕ) (none : Rose before now → ⊥) where
+module _ (files : List File) (a : RunWords) (before now : ℕ) (none : Rose before now → ⊥) where
   -- the fetch of a run's files stops
-  pub only_memory : (stop : Stop) (c : Config) (es : List Event) (images : List (List ℕ)) → StopsRun (Some files) a before now stop → HasAll (Some files) a c es images → stopped_status stop ≡ stopped_status NoMemory
+  pub only_memory : (stop : CommandFault) (c : Config) (es : List Event) (images : List (List ℕ)) → StopsRun (Some files) a before now stop → HasAll (Some files) a c es images → fault_status stop ≡ fault_status NoMemory
   only_memory (Missing n) c es images (next, lacks) has = absurd (all_read files a n c es images has next (lacked files n lacks))
   only_memory (TooLong n) c es images (next, long) has = absurd (all_read files a n c es images has next (too_long files n long))
   only_memory ShelfFault c es images rose has = absurd (none rose)
@@ -37,7 +37,7 @@ module _ (files : List File) (a : RunAsked) (before now : ℕ) (none : Rose befo
   only_memory (SnapRefused f) c es images h has = absurd h
   only_memory NoMemory c es images h has = refl
 
-  pub missing_stop : (stop : Stop) (name : List ℕ) → StopsRun (Some files) a before now stop → IsNextFile (Some files) a name → held files name ≡ None → IsMissing name (stopped_status stop)
+  pub missing_stop : (stop : CommandFault) (name : List ℕ) → StopsRun (Some files) a before now stop → IsNextFile (Some files) a name → held files name ≡ None → IsMissing name (fault_status stop)
   missing_stop (Missing n) name (next, lacks) mine lack = same_next files a n name next mine (lacked files n lacks) (lacked files name lack)
   missing_stop (TooLong n) name (next, long) mine lack = not_long files name n (same_next files a name n mine next (lacked files name lack) (too_long files n long)) lack long
   missing_stop ShelfFault name rose mine lack = none rose
@@ -47,7 +47,7 @@ module _ (files : List File) (a : RunAsked) (before now : ℕ) (none : Rose befo
   missing_stop (SnapRefused f) name h mine lack = h
   missing_stop NoMemory name h mine lack = tt
 
-  pub long_stop : (stop : Stop) (name : List ℕ) → StopsRun (Some files) a before now stop → IsNextFile (Some files) a name → IsLong files name → IsTooLong name (stopped_status stop)
+  pub long_stop : (stop : CommandFault) (name : List ℕ) → StopsRun (Some files) a before now stop → IsNextFile (Some files) a name → IsLong files name → IsTooLong name (fault_status stop)
   long_stop (TooLong n) name (next, other) mine long = same_next files a n name next mine (too_long files n other) (too_long files name long)
   long_stop (Missing n) name (next, lacks) mine long = not_long files n name (same_next files a n name next mine (lacked files n lacks) (too_long files name long)) lacks long
   long_stop ShelfFault name rose mine long = none rose
@@ -57,7 +57,7 @@ module _ (files : List File) (a : RunAsked) (before now : ℕ) (none : Rose befo
   long_stop (SnapRefused f) name h mine long = h
   long_stop NoMemory name h mine long = tt
 
-  pub rule_stop : (stop : Stop) (f : ConfigFault) → StopsRun (Some files) a before now stop → IsConfigRefused (Some files) a.config f → TellsRule f (stopped_status stop)
+  pub rule_stop : (stop : CommandFault) (f : ConfigFault) → StopsRun (Some files) a before now stop → IsConfigRefused (Some files) a.config f → TellsRule f (fault_status stop)
   rule_stop (Missing n) f (next, lacks) refused = rule_read files a n f refused next (lacked files n lacks)
   rule_stop (TooLong n) f (next, long) refused = rule_read files a n f refused next (too_long files n long)
   rule_stop ShelfFault f rose refused = none rose
@@ -67,7 +67,7 @@ module _ (files : List File) (a : RunAsked) (before now : ℕ) (none : Rose befo
   rule_stop (SnapRefused g) f h refused = h
   rule_stop NoMemory f h refused = tt
 
-  pub line_stop : (stop : Stop) (c : Config) (f : ScriptFault) → StopsRun (Some files) a before now stop → HasConfig (Some files) a.config c → IsScriptRefused (Some files) a.script f → TellsLine f (stopped_status stop)
+  pub line_stop : (stop : CommandFault) (c : Config) (f : ScriptFault) → StopsRun (Some files) a before now stop → HasConfig (Some files) a.config c → IsScriptRefused (Some files) a.script f → TellsLine f (fault_status stop)
   line_stop (Missing n) c f (next, lacks) has refused = line_read files a n c f has refused next (lacked files n lacks)
   line_stop (TooLong n) c f (next, long) has refused = line_read files a n c f has refused next (too_long files n long)
   line_stop ShelfFault c f rose has refused = none rose
@@ -78,14 +78,14 @@ module _ (files : List File) (a : RunAsked) (before now : ℕ) (none : Rose befo
   line_stop NoMemory c f h has refused = tt
 
 -- the shelf's files are known
-stops_told : (o : Outside) (files : List File) (a : RunAsked) (stop : Stop) → o.files ≡ Some files → StopsRun o.files a o.shelf o.shelf' stop → StopsRun (Some files) a o.shelf o.shelf' stop
+stops_told : (o : Outside) (files : List File) (a : RunWords) (stop : CommandFault) → o.files ≡ Some files → StopsRun o.files a o.shelf o.shelf' stop → StopsRun (Some files) a o.shelf o.shelf' stop
 stops_told o files a stop told why = subst (λ (f : Option (List File)). StopsRun f a o.shelf o.shelf' stop) told why
 
-has_told : (o : Outside) (files : List File) (a : RunAsked) (status : Status) (p : (PlaysRun MissesArePaid) a status o) → o.files ≡ Some files → HasAll (Some files) a p.config p.events p.images
+has_told : (o : Outside) (files : List File) (a : RunWords) (status : Status) (p : (PlaysRun MissesArePaid) a status o) → o.files ≡ Some files → HasAll (Some files) a p.config p.events p.images
 has_told o files a status p told = subst (λ (f : Option (List File)). HasAll f a p.config p.events p.images) told p.has
 
 -- what a run is made of is what the files stand for
-module _ (files : List File) (a : RunAsked) (c d : Config) (es fs : List Event) (images others : List (List ℕ)) (has : HasAll (Some files) a c es images) (made : HasAll (Some files) a d fs others) where
+module _ (files : List File) (a : RunWords) (c d : Config) (es fs : List Event) (images others : List (List ℕ)) (has : HasAll (Some files) a c es images) (made : HasAll (Some files) a d fs others) where
   pub same_config : c ≡ d
   same_config = one_config files a.config c d has.config made.config
 

@@ -1,7 +1,7 @@
 -- What far devices get of two runs of one configuration.
 use Rattle.std.proofs.Common.{◌≡◌, ◌≢◌, ℕ, suc, List, [], ◌∷◌, ◌++◌, map, filter, Bool, true, refl, sym, ap, ◌∙◌, subst, get_or, Option, Some, None, slice_get}
 use Rattle.std.proofs.lemmas.Bool.{eqb-true, false≢true}
-use Rattle.sys_flow.specs.Reach.{IsGuestAt, IsPrinterAt, IsTerminalAt, IsTheAudit, IsVolumeAt, Object}
+use Rattle.sys_flow.specs.Reach.{IsGuestAt, IsPrinterAt, IsTerminalAt, IsTheAudit, IsVolumeAt, ObjectPlace}
 use Rattle.vvmm_laws.proofs.Agree.{AgreeFrom, agree_beside, agree_index, agree_places, agree_refl}
 use Rattle.vvmm_laws.proofs.Commands.{Alike, alike_refl, alike_sym, alike_trans}
 use Rattle.vvmm_laws.proofs.Events.{GoesOn}
@@ -36,7 +36,7 @@ place_is : (line : ℕ) (o : Option ℕ) → is_at line o ≡ true → o ≡ Som
 place_is line None e = absurd (false≢true e)
 place_is line (Some n) e = ap Some (eqb-true n line e)
 
-module _ (c : Config) (is : IsConfig c) (far : Object → Bool) (closed : IsClosed c far) where
+module _ (c : Config) (is : IsConfig c) (far : ObjectPlace → Bool) (closed : IsClosed c far) where
   -- the dump on a far line
   dump_alike : (line : ℕ) → IsFarLine c far line → (i : ℕ) (rows : List GuestRow) → StandFrom c.guests i rows → (gs hs : List Guest) → AgreeFrom (far_guest c far) i gs hs → dump_on line rows gs ≡ dump_on line rows hs
   dump_alike line silent i [] stand gs hs a = refl
@@ -138,7 +138,7 @@ module _ (c : Config) (is : IsConfig c) (far : Object → Bool) (closed : IsClos
     volume_same v None at f = tt
     volume_same v (Some row) at f = drive_alike v row at f
 
-    pub device_same : (b : Object) → far b ≡ true → SameDevice b here there
+    pub device_same : (b : ObjectPlace) → far b ≡ true → SameDevice b here there
     device_same (IsTerminalAt k) f = terminal_same k (slice_get c.terminals k) refl f
     device_same (IsVolumeAt v) f = volume_same v (slice_get c.volumes v) refl f
     device_same (IsPrinterAt k) f = printer_same k (slice_get c.printers k) refl f

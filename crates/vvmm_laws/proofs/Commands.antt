@@ -1,7 +1,7 @@
 -- Commands at terminals that aren't far leave far objects as they are; at far terminals they do the same in states that
 -- agree there.
 use Rattle.std.proofs.Common.{◌≡◌, ℕ, List, [], map, Bool, true, false, refl, sym, ap, ◌∙◌, subst, Option, Some, None, slice_get, slice_set, slice_index_or}
-use Rattle.sys_flow.specs.Reach.{Object}
+use Rattle.sys_flow.specs.Reach.{ObjectPlace}
 use Rattle.vvmm_laws.proofs.Agree.{AgreeFrom, agree_changed, agree_index, agree_map, agree_refl, agree_set, agree_sym, agree_trans, agree_unchanged, agree_unset}
 use Rattle.vvmm_laws.proofs.Connected.{freed_near}
 use Rattle.vvmm_laws.proofs.Far.{alike_far, far_guest, far_terminal, far_volume, holds_far}
@@ -24,15 +24,15 @@ use Rattle.sys_state.specs.State.{SystemState, server_of}
 use Rattle.sys_server.specs.Apply.{freed}
 use Rattle.sys_server.specs.CommandLine.{asked_in}
 use Rattle.sys_server.specs.Verdict.{judged, judged_line, mount_at, on_dismount, on_row, unless_empty, verdict_of, visible_guest_place}
-use Rattle.sys_server.specs.declared.command.Asked.{Asked}
-use Rattle.sys_server.specs.declared.command.Asked.TheVariants as asks
+use Rattle.sys_server.specs.declared.command.NamedCommand.{NamedCommand}
+use Rattle.sys_server.specs.declared.command.NamedCommand.TheVariants as asks
 use Rattle.sys_server.specs.declared.command.Command.{Command}
 use Rattle.sys_server.specs.declared.command.Command.TheVariants.{Connect, Start, Halt, MountAt, Dismount, Show}
 use Rattle.sys_server.specs.declared.command.Rule.TheVariants.{Equal}
 use Rattle.sys_server.specs.declared.command.Verdict.{Verdict}
 use Rattle.sys_server.specs.declared.command.Verdict.TheVariants.{Granted, BadCommand, NoSuchObject, Denied}
 
-module _ (c : Config) (far : Object → Bool) where
+module _ (c : Config) (far : ObjectPlace → Bool) where
   -- two states agree at far objects
   pub record Alike (s t : SystemState) : Type 0 where
     pub connected : AgreeFrom (far_terminal c far) 0 s.connected t.connected
@@ -159,7 +159,7 @@ module _ (c : Config) (far : Object → Bool) where
       dismount_alike unit None = refl
       dismount_alike unit (Some g) = row_alike g unit (slice_get c.guests g) refl
 
-      judged_alike : (asked : Option Asked) → judged_line c (server_of s) k.class asked ≡ judged_line c (server_of t) k.class asked
+      judged_alike : (asked : Option NamedCommand) → judged_line c (server_of s) k.class asked ≡ judged_line c (server_of t) k.class asked
       unfolding judged
       judged_alike None = refl
       judged_alike (Some (asks.Connect vm)) = refl

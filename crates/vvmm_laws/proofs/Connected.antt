@@ -1,7 +1,7 @@
 -- Terminals and the guests whose consoles they are, in states that agree at far terminals.
 use Rattle.std.proofs.Common.{◌≡◌, ◌==◌, ℕ, suc, List, [], ◌∷◌, map, Bool, true, false, refl, sym, ap, ◌∙◌, Option, Some, None, option_map, slice_get, if◌then◌else◌, true≢false}
 use Rattle.std.proofs.lemmas.Bool.{eqb-true, false≢true, ne_eqb}
-use Rattle.sys_flow.specs.Reach.{Object}
+use Rattle.sys_flow.specs.Reach.{ObjectPlace}
 use Rattle.vvmm_laws.proofs.Agree.{AgreeFrom, AsLong}
 use Rattle.vvmm_laws.proofs.Far.{IsFarLine, far_guest, far_terminal, holds_far}
 use Rattle.vvmm_laws.specs.Reach.{IsClosed}
@@ -18,7 +18,7 @@ use Rattle.sys_objects.specs.Places.{is_at}
 pub other_line : (own line : ℕ) (is : Bool) → (own ≡ line → is ≡ true) → is ≡ false → (own == line) ≡ false
 other_line own line is far near = ne_eqb own line (λ same. true≢false (sym (far same) ∙ near))
 
-module _ (c : Config) (far : Object → Bool) (closed : IsClosed c far) where
+module _ (c : Config) (far : ObjectPlace → Bool) (closed : IsClosed c far) where
   -- a terminal and its guest are both far, or neither is
   pub at_far : (n : ℕ) (k : Terminal) → slice_get c.terminals n ≡ Some k → (g : ℕ) (o : Option ℕ) → ConnectFits c k o → is_at g o ≡ true → far_guest c far g ≡ far_terminal c far n
   at_far n k at g None h e = absurd (false≢true e)

@@ -2,7 +2,7 @@
 use Rattle.std.proofs.Common.{◌≡◌, ◌≢◌, ◌<◌, ◌==◌, ℕ, zero, suc, List, [], ◌∷◌, ◌++◌, length, map, filter, Bool, true, false, refl, sym, ap, ◌∙◌, Option, Some, None, option_map, slice_get, slice_index_or, true≢false, ◌⊎◌, inl, inr, arith}
 use Rattle.std.specs.Prelude.{bytes_eq}
 use Rattle.std.proofs.lemmas.Bool.{and_parts, cases_order, eq-eqb, eqb-true, false≢true}
-use Rattle.sys_flow.specs.Reach.{IsReached, IsGuestAt, IsPrinterAt, IsTerminalAt, IsTheAudit, IsVolumeAt, Object, all_objects}
+use Rattle.sys_flow.specs.Reach.{IsReached, IsGuestAt, IsPrinterAt, IsTerminalAt, IsTheAudit, IsVolumeAt, ObjectPlace, all_objects}
 use Rattle.vvmm_laws.proofs.Closed.{closed_sets_are_apart}
 use Rattle.vvmm_laws.proofs.Reached.{Decides, apart_closed, apart_from, by_number, decided, get_front, get_within, is_apart}
 use Rattle.vvmm_laws.specs.Reach.{AgreeAt, AgreeOn, DependsOnlyOnReached, DifferIn, DifferOnlyAt, SameDevice, SameDrive, SameOn, UnnamedIsApart, events_without, is_far_event, is_far_place, is_of_another, line_of_audit, line_of_guest, line_of_printer, line_of_terminal}
@@ -51,7 +51,7 @@ drive_stays : (x y : Input) (o : Option VolumeRow) → ((SameDrive o x y → ⊥
 drive_stays x y None k = tt
 drive_stays x y (Some v) k = by_decision (drive_blocks x v.drive ≡ drive_blocks y v.drive) (list_decided (list_decided number_decided) (drive_blocks x v.drive) (drive_blocks y v.drive)) k
 
-device_stays : (x y : Input) (b : Object) → ((SameDevice b x y → ⊥) → ⊥) → SameDevice b x y
+device_stays : (x y : Input) (b : ObjectPlace) → ((SameDevice b x y → ⊥) → ⊥) → SameDevice b x y
 device_stays x y (IsTerminalAt t) k = line_stays x y (line_of_terminal (slice_get x.config.terminals t)) k
 device_stays x y (IsVolumeAt v) k = drive_stays x y (slice_get x.config.volumes v) k
 device_stays x y (IsPrinterAt p) k = line_stays x y (line_of_printer (slice_get x.config.printers p)) k
@@ -111,7 +111,7 @@ module _ (c : Config) (is : IsConfig c) where
       by_order (inr (inr later)) = absurd (names_apart k j y x at_y at_x later (sym e))
 
   -- an event of a terminal of the set is one of another terminal than this
-  module _ (far : Object → Bool) (t : ℕ) (near : far (IsTerminalAt t) ≡ false) where
+  module _ (far : ObjectPlace → Bool) (t : ℕ) (near : far (IsTerminalAt t) ≡ false) where
     own_event : (x : Terminal) → slice_get c.terminals t ≡ Some x → (e : Event) → bytes_eq x.name e.terminal ≡ true → is_far_event c far e ≡ false
     own_event x at e same =
         let name : x.name ≡ e.terminal = same_bytes x.name e.terminal same in
@@ -138,8 +138,8 @@ equal_agree far xs ys e = (ap length e, λ k f. ap (λ zs. slice_get zs k) e)
 but_agree : {X : Type 0} (far : ℕ → Bool) (j : ℕ) → far j ≡ false → (xs ys : List X) → DifferOnlyAt j xs ys → AgreeAt far xs ys
 but_agree far j near xs ys h = (h.0, λ k f. h.1 k (λ same. true≢false (sym f ∙ ap far same ∙ near)))
 
-module _ (x y : Input) (is : IsConfig x.config) (far : Object → Bool) where
-  agree_on : (a : Object) → far a ≡ false → DifferIn a x y → AgreeOn far x y
+module _ (x y : Input) (is : IsConfig x.config) (far : ObjectPlace → Bool) where
+  agree_on : (a : ObjectPlace) → far a ≡ false → DifferIn a x y → AgreeOn far x y
   agree_on (IsTerminalAt t) near d = record {
     config = d.config;
     rounds = d.rounds;
@@ -180,7 +180,7 @@ module _ (x y : Input) (is : IsConfig x.config) (far : Object → Bool) where
 itself_near : (c : Config) (a : ℕ) (f : ℕ → Bool) → is_apart c a f a ≡ false
 itself_near c a f = let same = eq-eqb a a refl in both (f a) (λ e. rw e refl) (λ e. rw (e, same) refl)
 
-unreached_far : (c : Config) (a : ℕ) (f : ℕ → Bool) → Decides (IsReached c a) (length (all_objects c)) f → (b : ℕ) (to : Object) → slice_get (all_objects c) b ≡ Some to → a ≢ b → (IsReached c a b → ⊥) → is_apart c a f b ≡ true
+unreached_far : (c : Config) (a : ℕ) (f : ℕ → Bool) → Decides (IsReached c a) (length (all_objects c)) f → (b : ℕ) (to : ObjectPlace) → slice_get (all_objects c) b ≡ Some to → a ≢ b → (IsReached c a b → ⊥) → is_apart c a f b ≡ true
 unreached_far c a f decides b to at other not_reached = both (f b)
     (λ e. absurd (not_reached ((decides b (get_within (all_objects c) b to at)).0 e)))
     (λ e. both (b == a) (λ s. absurd (other (sym (eqb-true b a s)))) (λ s. rw (e, s) refl))
@@ -189,7 +189,7 @@ pub depends_only_on_reached : DependsOnlyOnReached
 depends_only_on_reached x y a b from to is at_from at_to other not_reached differ =
     let c : Config = x.config in
     device_stays x y to (λ wrong. decided (IsReached c a) (length (all_objects c)) (λ f decides.
-    let far : Object → Bool = apart_from c a f in
+    let far : ObjectPlace → Bool = apart_from c a f in
     let near : far from ≡ false = by_number c a f a from at_from ∙ itself_near c a f in
     let away : far to ≡ true = by_number c a f b to at_to ∙ unreached_far c a f decides b to at_to other not_reached in
     wrong (closed_sets_are_apart x y far to is (apart_closed c a f is decides) (agree_on x y is far from near differ) away)))

@@ -2,7 +2,7 @@
 use Rattle.std.proofs.Common.{◌≡◌, ◌==◌, ℕ, suc, List, [], ◌∷◌, ◌++◌, map, filter, Bool, true, false, refl, sym, ap, ◌∙◌, subst, Option, Some, None, slice_get, slice_set, slice_index_or, if◌then◌else◌}
 use Rattle.std.proofs.lemmas.Bool.{false≢true}
 use Rattle.vv_class.specs.Class.{does_flow}
-use Rattle.sys_flow.specs.Reach.{IsTheAudit, Object}
+use Rattle.sys_flow.specs.Reach.{IsTheAudit, ObjectPlace}
 use Rattle.vvmm_laws.proofs.Agree.{AgreeFrom, agree_changed, agree_get, agree_index, agree_set, agree_unchanged, agree_unset, long_set}
 use Rattle.vvmm_laws.proofs.Commands.{Alike, alike_refl, alike_sym, alike_trans, quiet_after, same_after, verdict_alike}
 use Rattle.vvmm_laws.proofs.Connected.{console_alike, console_near, other_line, terminal_off}
@@ -34,7 +34,7 @@ use Rattle.sys_server.specs.declared.command.Verdict.{Verdict}
 use Rattle.sys_server.specs.declared.command.Verdict.TheVariants.{Granted, BadCommand, NoSuchObject, Denied}
 use Rattle.vm_state.specs.State.{Guest}
 
-module _ (c : Config) (far : Object → Bool) (closed : IsClosed c far) where
+module _ (c : Config) (far : ObjectPlace → Bool) (closed : IsClosed c far) where
   -- SHOW at a far terminal: it knows far guests alone
   lines_alike : (n : ℕ) (k : Terminal) → slice_get c.terminals n ≡ Some k → far_terminal c far n ≡ true → (i : ℕ) (rows : List GuestRow) → StandFrom c.guests i rows → (gs hs : List Guest) → AgreeFrom (far_guest c far) i gs hs
       → guest_lines k.class rows (map is_running gs) ≡ guest_lines k.class rows (map is_running hs)

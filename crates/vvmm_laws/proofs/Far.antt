@@ -3,7 +3,7 @@ use Rattle.std.proofs.Common.{◌≡◌, ℕ, List, Bool, true, false, refl, sym
 use Rattle.std.proofs.lemmas.Bool.{eq-eqb}
 use Rattle.vv_class.specs.Class.{does_flow}
 use Rattle.vv_class.specs.declared.class.AccessClass.{AccessClass}
-use Rattle.sys_flow.specs.Reach.{IsGuestAt, IsPrinterAt, IsTerminalAt, IsTheAudit, IsVolumeAt, Object, is_read_by, written_by}
+use Rattle.sys_flow.specs.Reach.{IsGuestAt, IsPrinterAt, IsTerminalAt, IsTheAudit, IsVolumeAt, ObjectPlace, is_read_by, written_by}
 use Rattle.vvmm_laws.specs.Reach.{IsClosed}
 use Rattle.sys_objects.specs.Rules.{same_class}
 use Rattle.sys_objects.specs.declared.records.Audit.{Audit}
@@ -17,7 +17,7 @@ use Rattle.sys_purge.proofs.Devices.{flows_itself}
 use Rattle.sys_purge.proofs.Fits.{Each, Holds}
 use Rattle.sys_purge.proofs.Kept.{both}
 
-module _ (c : Config) (far : Object → Bool) where
+module _ (c : Config) (far : ObjectPlace → Bool) where
   abbrev pub far_terminal : ℕ → Bool
   far_terminal n = far (IsTerminalAt n)
 

@@ -5,7 +5,7 @@ use Rattle.std.proofs.lemmas.Bool.{and_parts, eq-eqb, false≢true}
 use Rattle.std.proofs.lemmas.List.Elements.{All-head, All-tail}
 use Rattle.vv_class.specs.Class.{does_flow}
 use Rattle.vv_class.specs.declared.class.AccessClass.{AccessClass}
-use Rattle.sys_flow.specs.Reach.{Object, has_terminal, is_mount_of, is_read_by, is_written_mount_of, written_by}
+use Rattle.sys_flow.specs.Reach.{ObjectPlace, has_terminal, is_mount_of, is_read_by, is_written_mount_of, written_by}
 use Rattle.vvmm_laws.proofs.Agree.{AsLong, long_map, long_set}
 use Rattle.vvmm_laws.proofs.Far.{MountLeads, MountsLead}
 use Rattle.sys_objects.specs.Condition.{MayHave}
@@ -44,7 +44,7 @@ each_places : {X : Type 0} (P : X → Type 0) (xs : List X) → ((k : ℕ) (x : 
 each_places P [] h = tt
 each_places P (x ∷ xs) h = (h 0 x refl, each_places P xs (λ k y at. h (suc k) y at))
 
-module _ (c : Config) (far : Object → Bool) where
+module _ (c : Config) (far : ObjectPlace → Bool) where
   pub record Held (s : SystemState) : Type 0 where
     pub long : AsLong c.terminals s.connected
     pub leads : Pairs (MountsLead c far) c.guests s.mounts

@@ -28,20 +28,20 @@ use Rattle.sys_system.specs.Devices.{device_of}
 use Rattle.sys_devices.specs.declared.device.Device.{Device}
 use Rattle.sys_system.specs.declared.power.PowerFault.{PowerFault}
 use Rattle.sys_system.specs.declared.power.PowerFault.TheVariants as faults
-use Rattle.vvmm_call.specs.Answer.{AnswersRun, AnswersSave, Outside, PlaysExtend, PlaysResume, PlaysSave, power_status, run_outside, status_when_done, stopped_status}
+use Rattle.vvmm_call.specs.Answer.{AnswersRun, AnswersSave, Outside, PlaysExtend, PlaysResume, PlaysSave, power_status, run_outside, status_when_done, fault_status}
 use Rattle.vvmm_files.proofs.SnapText.{one_text as one_snap_text}
 use Rattle.vvmm_files.specs.Files.{HasBoth, HasScript, HasSnap, IsRead}
-use Rattle.vvmm_files.specs.Words.{ResumeAsked, RunAsked}
+use Rattle.vvmm_files.specs.Words.{ResumeWords, RunWords}
 use Rattle.vvmm_files.specs.declared.status.Status.TheVariants.{Done}
-use Rattle.vvmm_files.specs.declared.stop.Stop.{Stop}
-use Rattle.vvmm_files.specs.declared.stop.Stop.TheVariants as stops
+use Rattle.vvmm_files.specs.declared.stop.CommandFault.{CommandFault}
+use Rattle.vvmm_files.specs.declared.stop.CommandFault.TheVariants as stops
 use Rattle.vvmm_laws.proofs.Marked.{first_marked, line_whole, none_marked}
 use Rattle.vvmm_laws.proofs.Told.{one_made, one_value}
 use Rattle.vvmm_laws.specs.Complete.{line_at}
 use Rattle.vvmm_laws.specs.Together.{AreChained, AreJoined, AreOneRun, AreOneSave, GetsInAll, Extension, PartsMakeOne, SavesMakeOne, last_outside, last_script, outsides, rounds_of}
 
 -- no stop and no fault of power is `Done`, and where it is the answer no device failed, and nothing was cut
-pub not_stopped : (stop : Stop) → Done ≡ stopped_status stop → ⊥
+pub not_stopped : (stop : CommandFault) → Done ≡ fault_status stop → ⊥
 not_stopped (stops.Missing name) e = cc
 not_stopped (stops.TooLong name) e = cc
 not_stopped stops.ShelfFault e = cc
@@ -123,7 +123,7 @@ record At (m : Moment) (text : List ℕ) (es : List Event) (script : List ℕ) (
   has_script : (files : List File) → o.files ≡ Some files → HasScript (Some files) script es
 
 -- What goes on from there has that moment, those events and that text.
-module _ (m : Moment) (text : List ℕ) (es : List Event) (script : List ℕ) (b : ResumeAsked) (o p : Outside) (j : AreJoined script b o p) (at : At m text es script o) where
+module _ (m : Moment) (text : List ℕ) (es : List Event) (script : List ℕ) (b : ResumeWords) (o p : Outside) (j : AreJoined script b o p) (at : At m text es script o) where
   is_snap : IsSnap j.snap m
   is_snap = record {
     text = text;
@@ -162,7 +162,7 @@ module _ (m : Moment) (es : List Event) (n : ℕ) (text : List ℕ) (saved : Sav
 
 -- One `extend` from there ends at the moment after its rounds.
 module _ (m : Moment) (text : List ℕ) (es : List Event) (script : List ℕ) (x : Extension) (o : Outside) (j : AreJoined script x.asked o x.outside) (at : At m text es script o) where
-  abbrev b : ResumeAsked
+  abbrev b : ResumeWords
   b = x.asked
 
   abbrev p : Outside
@@ -219,7 +219,7 @@ chained m text es script o (x ∷ xs) at (inr plays, joined, rest) =
 abbrev whole : Config → List (List ℕ) → List (List (List ℕ)) → List Event → ℕ → Input
 whole c images volumes es n = record { config = c; images = images; volumes = volumes; events = es; rounds = n }
 
-module _ (a : RunAsked) (o : Outside) (xs : List Extension) (chain : AreChained a.script o xs) (s : (PlaysSave MissesArePaid) a Done o) (saved : Saved) (volumes : List (List (List ℕ))) (saves : (Saves MissesArePaid) (whole s.config s.images volumes s.events a.rounds) s.text saved (run_outside o) o.out o.out') (done : Done ≡ status_when_done saved.failed saved.is_cut) where
+module _ (a : RunWords) (o : Outside) (xs : List Extension) (chain : AreChained a.script o xs) (s : (PlaysSave MissesArePaid) a Done o) (saved : Saved) (volumes : List (List (List ℕ))) (saves : (Saves MissesArePaid) (whole s.config s.images volumes s.events a.rounds) s.text saved (run_outside o) o.out o.out') (done : Done ≡ status_when_done saved.failed saved.is_cut) where
   abbrev start : Moment
   start = opening (whole s.config s.images volumes s.events a.rounds)
 
@@ -261,7 +261,7 @@ module _ (a : RunAsked) (o : Outside) (xs : List Extension) (chain : AreChained 
   }
 
   -- .. and `resume` from there
-  module _ (b : ResumeAsked) (p : Outside) (j : AreJoined (last_script a.script xs) b (last_outside o xs) p) where
+  module _ (b : ResumeWords) (p : Outside) (j : AreJoined (last_script a.script xs) b (last_outside o xs) p) where
     module _ (ran : Ran) (made : (MakesFrom MissesArePaid) (moment_after start s.events all) s.events b.rounds ran (run_outside p)) (none : ran.failed ≡ None) where
       failed : device_of (first_marked made.marks) (first_marked made.drive_marks) ≡ None
       failed = sym made.failed ∙ none

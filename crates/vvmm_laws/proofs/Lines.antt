@@ -1,7 +1,7 @@
 -- Each line has one device: on the line of a far device are far objects alone.
 use Rattle.std.proofs.Common.{◌≡◌, ◌≢◌, ◌<◌, ◌≤◌, ℕ, zero, suc, List, [], ◌∷◌, ◌++◌, length, map, true, refl, sym, ap, ◌∙◌, subst, get_or, Option, Some, None, IfSome, slice_get, Bool, inl, inr, arith}
 use Rattle.std.specs.List.{AllPairs, cons_option, filter_map}
-use Rattle.sys_flow.specs.Reach.{IsTheAudit, Object}
+use Rattle.sys_flow.specs.Reach.{IsTheAudit, ObjectPlace}
 use Rattle.vvmm_laws.proofs.Far.{IsFarLine, far_guest, far_printer, far_terminal}
 use Rattle.sys_objects.specs.Condition.{IsAudit, IsConfig, IsGuest, IsPrinter, IsTerminal}
 use Rattle.sys_objects.specs.Rules.{audit_line, lines_of}
@@ -115,7 +115,7 @@ module _ (c : Config) where
   in_audit : (a : Audit) → c.audit ≡ Some a → IsIn a.line (audit_line c.audit)
   in_audit a e = rw e (inl refl)
 
-  module _ (is : IsConfig c) (far : Object → Bool) where
+  module _ (is : IsConfig c) (far : ObjectPlace → Bool) where
     all : Distinct (((ts ++ ps) ++ ds) ++ audit_line c.audit)
     all = distinct (lines_of c) is.lines
 

@@ -23,12 +23,12 @@ use Rattle.sys_objects.specs.declared.records.GuestRow.{GuestRow}
 use Rattle.sys_devices.specs.declared.device.Device.{Device}
 use Rattle.sys_system.specs.declared.power.PowerFault.{PowerFault}
 use Rattle.sys_system.specs.declared.power.PowerFault.TheVariants as faults
-use Rattle.vvmm_call.specs.Answer.{AnswersLive, Outside, PlaysLive, PutsSummary, live_status, power_status, run_outside, status_when_done, stopped_status}
+use Rattle.vvmm_call.specs.Answer.{AnswersLive, Outside, PlaysLive, PutsSummary, live_status, power_status, run_outside, status_when_done, fault_status}
 use Rattle.vvmm_files.specs.Files.{AreImages, HasAllToLive, IsConfigRefused, IsImageToLive, IsNextToLive, StopsLive}
-use Rattle.vvmm_files.specs.Words.{LiveAsked}
+use Rattle.vvmm_files.specs.Words.{LiveWords}
 use Rattle.vvmm_files.specs.declared.status.Status.{Status}
-use Rattle.vvmm_files.specs.declared.stop.Stop.{Stop}
-use Rattle.vvmm_files.specs.declared.stop.Stop.TheVariants.{Missing, TooLong, ShelfFault, Config as ConfigRefused, Script as ScriptRefused, SnapSize, Snap as SnapRefused, NoMemory}
+use Rattle.vvmm_files.specs.declared.stop.CommandFault.{CommandFault}
+use Rattle.vvmm_files.specs.declared.stop.CommandFault.TheVariants.{Missing, TooLong, ShelfFault, Config as ConfigRefused, Script as ScriptRefused, SnapSize, Snap as SnapRefused, NoMemory}
 use Rattle.vvmm_laws.proofs.Chosen.{readable}
 use Rattle.vvmm_laws.proofs.Nexts.{first_unread}
 use Rattle.vvmm_laws.proofs.Played.{NoDriveRose, NoLineRose, down_image, down_line_kept, down_names_drive, down_served, down_size, names_drive, names_line, none_failed}
@@ -36,7 +36,7 @@ use Rattle.vvmm_laws.proofs.Told.{Unread, image_read, lacked, not_config, not_lo
 use Rattle.vvmm_laws.specs.Complete.{IsImageOf, IsLong, IsMissing, IsServed, IsSizeOf, IsTooLong, NamesDrive, NamesLine, TellsRule, line_at}
 use Rattle.vvmm_laws.specs.Live.{CompletesLive, IsLived, TellsLiveDriveFault, TellsLiveImage, TellsLiveLineFault, TellsLiveMissing, TellsLiveRule, TellsLiveSize, TellsLiveTooLong}
 
-module _ (files : List File) (a : LiveAsked) where
+module _ (files : List File) (a : LiveWords) where
   same_image : (n m : List ℕ) → IsImageToLive (Some files) a n → IsImageToLive (Some files) a m → Unread files n → Unread files m → n ≡ m
   same_image n m s t none gone =
       let same : t.config ≡ s.config = one_config files a.config t.config s.config t.has_config s.has_config in
@@ -64,9 +64,9 @@ module _ (files : List File) (a : LiveAsked) where
   rule_read n f refused (inl e) none = read_as files a.config n refused.text e none refused.read
   rule_read n f refused (inr t) none = not_config files a.config t.config f t.has_config refused
 
-module _ (files : List File) (a : LiveAsked) (before now : ℕ) (none : Rose before now → ⊥) where
+module _ (files : List File) (a : LiveWords) (before now : ℕ) (none : Rose before now → ⊥) where
   -- the fetch of the files stops
-  only_memory : (stop : Stop) (c : Config) (images : List (List ℕ)) → StopsLive (Some files) a before now stop → HasAllToLive (Some files) a c images → stopped_status stop ≡ stopped_status NoMemory
+  only_memory : (stop : CommandFault) (c : Config) (images : List (List ℕ)) → StopsLive (Some files) a before now stop → HasAllToLive (Some files) a c images → fault_status stop ≡ fault_status NoMemory
   only_memory (Missing n) c images (next, lacks) has = absurd (all_read files a n c images has next (lacked files n lacks))
   only_memory (TooLong n) c images (next, long) has = absurd (all_read files a n c images has next (too_long files n long))
   only_memory ShelfFault c images rose has = absurd (none rose)
@@ -76,7 +76,7 @@ module _ (files : List File) (a : LiveAsked) (before now : ℕ) (none : Rose bef
   only_memory (SnapRefused f) c images h has = absurd h
   only_memory NoMemory c images h has = refl
 
-  missing_stop : (stop : Stop) (name : List ℕ) → StopsLive (Some files) a before now stop → IsNextToLive (Some files) a name → held files name ≡ None → IsMissing name (stopped_status stop)
+  missing_stop : (stop : CommandFault) (name : List ℕ) → StopsLive (Some files) a before now stop → IsNextToLive (Some files) a name → held files name ≡ None → IsMissing name (fault_status stop)
   missing_stop (Missing n) name (next, lacks) mine lack = same_next files a n name next mine (lacked files n lacks) (lacked files name lack)
   missing_stop (TooLong n) name (next, long) mine lack = not_long files name n (same_next files a name n mine next (lacked files name lack) (too_long files n long)) lack long
   missing_stop ShelfFault name rose mine lack = none rose
@@ -86,7 +86,7 @@ module _ (files : List File) (a : LiveAsked) (before now : ℕ) (none : Rose bef
   missing_stop (SnapRefused f) name h mine lack = h
   missing_stop NoMemory name h mine lack = tt
 
-  long_stop : (stop : Stop) (name : List ℕ) → StopsLive (Some files) a before now stop → IsNextToLive (Some files) a name → IsLong files name → IsTooLong name (stopped_status stop)
+  long_stop : (stop : CommandFault) (name : List ℕ) → StopsLive (Some files) a before now stop → IsNextToLive (Some files) a name → IsLong files name → IsTooLong name (fault_status stop)
   long_stop (TooLong n) name (next, other) mine long = same_next files a n name next mine (too_long files n other) (too_long files name long)
   long_stop (Missing n) name (next, lacks) mine long = not_long files n name (same_next files a n name next mine (lacked files n lacks) (too_long files name long)) lacks long
   long_stop ShelfFault name rose mine long = none rose
@@ -96,7 +96,7 @@ module _ (files : List File) (a : LiveAsked) (before now : ℕ) (none : Rose bef
   long_stop (SnapRefused f) name h mine long = h
   long_stop NoMemory name h mine long = tt
 
-  rule_stop : (stop : Stop) (f : ConfigFault) → StopsLive (Some files) a before now stop → IsConfigRefused (Some files) a.config f → TellsRule f (stopped_status stop)
+  rule_stop : (stop : CommandFault) (f : ConfigFault) → StopsLive (Some files) a before now stop → IsConfigRefused (Some files) a.config f → TellsRule f (fault_status stop)
   rule_stop (Missing n) f (next, lacks) refused = rule_read files a n f refused next (lacked files n lacks)
   rule_stop (TooLong n) f (next, long) refused = rule_read files a n f refused next (too_long files n long)
   rule_stop ShelfFault f rose refused = none rose
@@ -107,14 +107,14 @@ module _ (files : List File) (a : LiveAsked) (before now : ℕ) (none : Rose bef
   rule_stop NoMemory f h refused = tt
 
 -- the shelf's files are known
-stops_told : (o : Outside) (files : List File) (a : LiveAsked) (stop : Stop) → o.files ≡ Some files → StopsLive o.files a o.shelf o.shelf' stop → StopsLive (Some files) a o.shelf o.shelf' stop
+stops_told : (o : Outside) (files : List File) (a : LiveWords) (stop : CommandFault) → o.files ≡ Some files → StopsLive o.files a o.shelf o.shelf' stop → StopsLive (Some files) a o.shelf o.shelf' stop
 stops_told o files a stop told why = subst (λ (f : Option (List File)). StopsLive f a o.shelf o.shelf' stop) told why
 
-pub has_told : (o : Outside) (files : List File) (a : LiveAsked) (status : Status) (p : Operator) (q : (PlaysLive MissesArePaid) a status o p) → o.files ≡ Some files → HasAllToLive (Some files) a q.config q.images
+pub has_told : (o : Outside) (files : List File) (a : LiveWords) (status : Status) (p : Operator) (q : (PlaysLive MissesArePaid) a status o p) → o.files ≡ Some files → HasAllToLive (Some files) a q.config q.images
 has_told o files a status p q told = subst (λ (f : Option (List File)). HasAllToLive f a q.config q.images) told q.has
 
 -- what a run is made of is what the files stand for
-module _ (files : List File) (a : LiveAsked) (c d : Config) (images others : List (List ℕ)) (has : HasAllToLive (Some files) a c images) (made : HasAllToLive (Some files) a d others) where
+module _ (files : List File) (a : LiveWords) (c d : Config) (images others : List (List ℕ)) (has : HasAllToLive (Some files) a c images) (made : HasAllToLive (Some files) a d others) where
   same_config : c ≡ d
   same_config = one_config files a.config c d has.config made.config
 
@@ -159,7 +159,7 @@ names_drive_too d None false Over h = h
 names_drive_too d None false Broken h = h
 names_drive_too d None false Lost h = h
 
-module _ (a : LiveAsked) (status : Status) (o : Outside) (p : Operator) (q : (PlaysLive MissesArePaid) a status o p) where
+module _ (a : LiveWords) (status : Status) (o : Outside) (p : Operator) (q : (PlaysLive MissesArePaid) a status o p) where
   lives_served : first_misfit q.config.guests q.images ≡ None → All (FitsDrive o.drives) q.config.volumes → ((d : ℕ) → HasFailed q.config.volumes o.drives o.drives' d → ⊥) → NoLineRose (run_outside o) → NoDriveRose (run_outside o) → (Rose o.out.faults o.out'.faults → ⊥) → (Rose p.keys.faults p.keys'.faults → ⊥) → IsLived p status
   lives_served fits drives_fit could lines drives kept keys = by q.result q.lives q.answers
     where

@@ -1,7 +1,7 @@
 -- What is reached from an object and the object itself are all that isn't of a closed set.
 use Rattle.std.proofs.Common.{◌≡◌, ◌<◌, ◌+◌, ◌==◌, ◌||◌, ℕ, zero, suc, List, [], ◌∷◌, ◌++◌, length, Bool, true, false, not, refl, sym, ap, ◌∙◌, subst, Option, Some, None, slice_get, if◌then◌else◌, true≢false, ◌⊎◌, inl, inr, arith}
 use Rattle.std.proofs.lemmas.Bool.{and_parts, cases_order, eq-eqb, eqb-true, false≢true}
-use Rattle.sys_flow.specs.Reach.{IsReached, IsGuestAt, IsPrinterAt, IsTerminalAt, IsTheAudit, IsVolumeAt, Object, all_objects, audit_object, has_edge, is_edge, is_place, leads, numbered_from}
+use Rattle.sys_flow.specs.Reach.{IsReached, IsGuestAt, IsPrinterAt, IsTerminalAt, IsTheAudit, IsVolumeAt, ObjectPlace, all_objects, audit_object, has_edge, is_edge, is_place, leads, numbered_from}
 use Rattle.vvmm_laws.specs.Reach.{IsClosed}
 use Rattle.sys_objects.specs.Condition.{IsConfig, MayHave}
 use Rattle.sys_objects.specs.Rules.{flows_into, may_print}
@@ -75,16 +75,16 @@ where_is [] ys k x at = inr (k, omega arith, at)
 where_is (z ∷ zs) ys zero x at = inl at
 where_is (z ∷ zs) ys (suc k) x at = one_later z zs ys k x (where_is zs ys k x at)
 
-get_numbered : {A : Type 0} (object : ℕ → Object) (i : ℕ) (xs : List A) (k j : ℕ) (x : A) → i + k ≡ j → slice_get xs k ≡ Some x → slice_get (numbered_from object i xs) k ≡ Some (object j)
+get_numbered : {A : Type 0} (object : ℕ → ObjectPlace) (i : ℕ) (xs : List A) (k j : ℕ) (x : A) → i + k ≡ j → slice_get xs k ≡ Some x → slice_get (numbered_from object i xs) k ≡ Some (object j)
 get_numbered object i [] k j x e at = cc
 get_numbered object i (y ∷ ys) zero j x e at = let same : i ≡ j = omega (arith, e) in ap (λ (n : ℕ). Some (object n)) same
 get_numbered object i (y ∷ ys) (suc k) j x e at = get_numbered object (suc i) ys k j x (omega (arith, e)) at
 
 -- what is at a number
-abbrev Numbered : {A : Type 0} → (ℕ → Object) → List A → ℕ → ℕ → Object → Type 0
+abbrev Numbered : {A : Type 0} → (ℕ → ObjectPlace) → List A → ℕ → ℕ → ObjectPlace → Type 0
 Numbered {A} object xs k j p = (x : A) × (slice_get xs k ≡ Some x) × (object j ≡ p)
 
-numbered_is : {A : Type 0} (object : ℕ → Object) (i : ℕ) (xs : List A) (k j : ℕ) (p : Object) → i + k ≡ j → slice_get (numbered_from object i xs) k ≡ Some p → Numbered object xs k j p
+numbered_is : {A : Type 0} (object : ℕ → ObjectPlace) (i : ℕ) (xs : List A) (k j : ℕ) (p : ObjectPlace) → i + k ≡ j → slice_get (numbered_from object i xs) k ≡ Some p → Numbered object xs k j p
 numbered_is object i [] k j p e at = cc
 numbered_is object i (y ∷ ys) zero j p e at = let same : i ≡ j = omega (arith, e) in let is : object i ≡ p = cc in (y, refl, ap object (sym same) ∙ is)
 numbered_is object i (y ∷ ys) (suc k) j p e at = numbered_is object (suc i) ys k j p (omega (arith, e)) at
@@ -98,16 +98,16 @@ leads_more c a (v ∷ via) i j h e =
     rw (p.0, rest) refl
 
 module _ (c : Config) (a : ℕ) (f : ℕ → Bool) where
-  abbrev to_terminals : List Object
+  abbrev to_terminals : List ObjectPlace
   to_terminals = numbered_from IsTerminalAt 0 c.terminals
 
-  abbrev to_volumes : List Object
+  abbrev to_volumes : List ObjectPlace
   to_volumes = to_terminals ++ numbered_from IsVolumeAt 0 c.volumes
 
-  abbrev to_printers : List Object
+  abbrev to_printers : List ObjectPlace
   to_printers = to_volumes ++ numbered_from IsPrinterAt 0 c.printers
 
-  abbrev to_guests : List Object
+  abbrev to_guests : List ObjectPlace
   to_guests = to_printers ++ numbered_from IsGuestAt 0 c.guests
 
   -- what is neither reached nor the object itself
@@ -122,7 +122,7 @@ module _ (c : Config) (a : ℕ) (f : ℕ → Bool) where
   if_audited None b = false
   if_audited (Some x) b = b
 
-  abbrev pub apart_from : Object → Bool
+  abbrev pub apart_from : ObjectPlace → Bool
   apart_from (IsTerminalAt t) = if_there (slice_get c.terminals t) (is_apart t)
   apart_from (IsVolumeAt v) = if_there (slice_get c.volumes v) (is_apart (length to_terminals + v))
   apart_from (IsPrinterAt p) = if_there (slice_get c.printers p) (is_apart (length to_volumes + p))
@@ -159,7 +159,7 @@ module _ (c : Config) (a : ℕ) (f : ℕ → Bool) where
   audit_number x at = get_after to_guests (audit_object c.audit) 0 ∙ ap (λ (o : Option Audit). slice_get (audit_object o) 0) at
 
   -- an object that exists is of the set by its number
-  module _ (i : ℕ) (p : Object) where
+  module _ (i : ℕ) (p : ObjectPlace) where
     in_terminals : slice_get to_terminals i ≡ Some p → apart_from p ≡ is_apart i
     in_terminals at =
         let is = numbered_is IsTerminalAt 0 c.terminals i i p (omega arith) at in
@@ -212,21 +212,21 @@ module _ (c : Config) (a : ℕ) (f : ℕ → Bool) where
 
   -- the set is closed
   module _ (is : IsConfig c) (decides : Decides (IsReached c a) (length (all_objects c)) f) where
-    reached_on : (i j : ℕ) (p q : Object) → slice_get (all_objects c) i ≡ Some p → slice_get (all_objects c) j ≡ Some q → is_edge c p q ≡ true → f i ≡ true → IsReached c a j
+    reached_on : (i j : ℕ) (p q : ObjectPlace) → slice_get (all_objects c) i ≡ Some p → slice_get (all_objects c) j ≡ Some q → is_edge c p q ≡ true → f i ≡ true → IsReached c a j
     reached_on i j p q at_i at_j e r =
         let to_i : IsReached c a i = (decides i (get_within (all_objects c) i p at_i)).0 r in
         let edge : has_edge c i j ≡ true = rw (at_i, at_j) e in
         record { via = to_i.via ++ i ∷ []; lead = leads_more c a to_i.via i j to_i.lead edge }
 
-    reached_first : (i j : ℕ) (p q : Object) → slice_get (all_objects c) i ≡ Some p → slice_get (all_objects c) j ≡ Some q → is_edge c p q ≡ true → i ≡ a → IsReached c a j
+    reached_first : (i j : ℕ) (p q : ObjectPlace) → slice_get (all_objects c) i ≡ Some p → slice_get (all_objects c) j ≡ Some q → is_edge c p q ≡ true → i ≡ a → IsReached c a j
     reached_first i j p q at_i at_j e s =
         let edge : has_edge c i j ≡ true = rw (at_i, at_j) e in
         record { via = []; lead = subst (λ (n : ℕ). has_edge c n j ≡ true) s edge }
 
-    reached_so : (j : ℕ) (q : Object) → slice_get (all_objects c) j ≡ Some q → IsReached c a j → is_apart j ≡ false
+    reached_so : (j : ℕ) (q : ObjectPlace) → slice_get (all_objects c) j ≡ Some q → IsReached c a j → is_apart j ≡ false
     reached_so j q at r = both (f j) (λ e. rw e refl) (λ e. absurd ((decides j (get_within (all_objects c) j q at)).1 e r))
 
-    near_on : (i j : ℕ) (p q : Object) → slice_get (all_objects c) i ≡ Some p → slice_get (all_objects c) j ≡ Some q → is_edge c p q ≡ true → is_apart j ≡ true → is_apart i ≡ true
+    near_on : (i j : ℕ) (p q : ObjectPlace) → slice_get (all_objects c) i ≡ Some p → slice_get (all_objects c) j ≡ Some q → is_edge c p q ≡ true → is_apart j ≡ true → is_apart i ≡ true
     near_on i j p q at_i at_j e apart = both (f i)
         (λ r. absurd (true≢false (sym apart ∙ reached_so j q at_j (reached_on i j p q at_i at_j e r))))
         (λ r. both (i == a)

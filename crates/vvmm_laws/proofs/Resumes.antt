@@ -21,13 +21,13 @@ use Rattle.sys_snap.specs.Snap.{IsSnap}
 use Rattle.sys_snap.specs.declared.fault.SnapFault.{SnapFault}
 use Rattle.sys_system.specs.declared.power.PowerFault.{PowerFault}
 use Rattle.sys_system.specs.declared.power.PowerFault.TheVariants as faults
-use Rattle.vvmm_call.specs.Answer.{AnswersRun, AnswersSave, FollowsExtend, FollowsResume, Outside, PlaysExtend, PlaysResume, Silent, Stops, power_status, run_outside, stopped_status}
+use Rattle.vvmm_call.specs.Answer.{AnswersRun, AnswersSave, FollowsExtend, FollowsResume, Outside, PlaysExtend, PlaysResume, Silent, Refuses, power_status, run_outside, fault_status}
 use Rattle.vvmm_files.proofs.Stopping.{stops_extend}
 use Rattle.vvmm_files.specs.Files.{HasBoth, HasSnap, IsNextToResume, IsScriptRefused, IsSnapRefused, StopsExtend, StopsResume}
-use Rattle.vvmm_files.specs.Words.{ResumeAsked}
+use Rattle.vvmm_files.specs.Words.{ResumeWords}
 use Rattle.vvmm_files.specs.declared.status.Status.{Status}
-use Rattle.vvmm_files.specs.declared.stop.Stop.{Stop}
-use Rattle.vvmm_files.specs.declared.stop.Stop.TheVariants.{Missing, TooLong, ShelfFault, Config as ConfigRefused, Script as ScriptRefused, SnapSize, Snap as SnapRefused, NoMemory}
+use Rattle.vvmm_files.specs.declared.stop.CommandFault.{CommandFault}
+use Rattle.vvmm_files.specs.declared.stop.CommandFault.TheVariants.{Missing, TooLong, ShelfFault, Config as ConfigRefused, Script as ScriptRefused, SnapSize, Snap as SnapRefused, NoMemory}
 use Rattle.vvmm_laws.proofs.Played.{made_names_drive, made_names_line, made_served, one_misfit, same_drives, saved_names_line, saved_served}
 use Rattle.vvmm_laws.proofs.Told.{Unread, lacked, not_long, not_script, one_line, one_value, one_text, read_as, too_long}
 use Rattle.vvmm_laws.specs.Complete.{IsLong, IsMissing, IsServed, IsSizeOf, IsTooLong, NamesDrive, NamesLine, NoneRose, TellsLine, line_at}
@@ -46,7 +46,7 @@ module _ (files : List File) (name : List ℕ) where
       let same : f.place ≡ g.place = one_value (misfit_in b.bytes) f.place g.place (ap misfit_in (one_text files name b.bytes a.bytes b.read a.read) ∙ a.refused) b.refused in
       λ i. record { place = same i }
 
-module _ (files : List File) (a : ResumeAsked) where
+module _ (files : List File) (a : ResumeWords) where
   -- where both files are read, or the snapshot is refused, or the script, there is none that can't be read
   both_read : (n : List ℕ) (m : Moment) (es : List Event) → HasBoth (Some files) a m es → IsNextToResume (Some files) a n → Unread files n → ⊥
   both_read n m es has (inl e) none = read_as files a.snap n has.snap.bytes e none has.snap.read
@@ -67,9 +67,9 @@ module _ (files : List File) (a : ResumeAsked) where
   same_next n m (inr s) (inl f) none gone = absurd (read_as files a.snap m s.has.bytes f gone s.has.read)
   same_next n m (inr s) (inr t) none gone = s.is ∙ sym t.is
 
-module _ (files : List File) (a : ResumeAsked) (before now : ℕ) (none : Rose before now → ⊥) where
+module _ (files : List File) (a : ResumeWords) (before now : ℕ) (none : Rose before now → ⊥) where
   -- the fetch of snapshot and script stops
-  only_memory : (stop : Stop) (m : Moment) (es : List Event) → StopsResume (Some files) a before now stop → HasBoth (Some files) a m es → stopped_status stop ≡ stopped_status NoMemory
+  only_memory : (stop : CommandFault) (m : Moment) (es : List Event) → StopsResume (Some files) a before now stop → HasBoth (Some files) a m es → fault_status stop ≡ fault_status NoMemory
   only_memory (Missing n) m es (next, lacks) has = absurd (both_read files a n m es has next (lacked files n lacks))
   only_memory (TooLong n) m es (next, long) has = absurd (both_read files a n m es has next (too_long files n long))
   only_memory ShelfFault m es rose has = absurd (none rose)
@@ -79,7 +79,7 @@ module _ (files : List File) (a : ResumeAsked) (before now : ℕ) (none : Rose b
   only_memory (SnapRefused f) m es (refused, kept) has = absurd (not_snap files a.snap m f has.snap refused)
   only_memory NoMemory m es h has = refl
 
-  missing_stop : (stop : Stop) (name : List ℕ) → StopsExtend (Some files) a before now stop → IsNextToResume (Some files) a name → held files name ≡ None → IsMissing name (stopped_status stop)
+  missing_stop : (stop : CommandFault) (name : List ℕ) → StopsExtend (Some files) a before now stop → IsNextToResume (Some files) a name → held files name ≡ None → IsMissing name (fault_status stop)
   missing_stop (Missing n) name (next, lacks) mine lack = same_next files a n name next mine (lacked files n lacks) (lacked files name lack)
   missing_stop (TooLong n) name (next, long) mine lack = not_long files name n (same_next files a name n mine next (lacked files name lack) (too_long files n long)) lack long
   missing_stop ShelfFault name rose mine lack = none rose
@@ -89,7 +89,7 @@ module _ (files : List File) (a : ResumeAsked) (before now : ℕ) (none : Rose b
   missing_stop (SnapRefused f) name (refused, kept) mine lack = place_read files a name f refused mine (lacked files name lack)
   missing_stop NoMemory name h mine lack = tt
 
-  long_stop : (stop : Stop) (name : List ℕ) → StopsExtend (Some files) a before now stop → IsNextToResume (Some files) a name → IsLong files name → IsTooLong name (stopped_status stop)
+  long_stop : (stop : CommandFault) (name : List ℕ) → StopsExtend (Some files) a before now stop → IsNextToResume (Some files) a name → IsLong files name → IsTooLong name (fault_status stop)
   long_stop (TooLong n) name (next, other) mine long = same_next files a n name next mine (too_long files n other) (too_long files name long)
   long_stop (Missing n) name (next, lacks) mine long = not_long files n name (same_next files a n name next mine (lacked files n lacks) (too_long files name long)) lacks long
   long_stop ShelfFault name rose mine long = none rose
@@ -99,7 +99,7 @@ module _ (files : List File) (a : ResumeAsked) (before now : ℕ) (none : Rose b
   long_stop (SnapRefused f) name (refused, kept) mine long = place_read files a name f refused mine (too_long files name long)
   long_stop NoMemory name h mine long = tt
 
-  place_stop : (stop : Stop) (f : SnapFault) → StopsExtend (Some files) a before now stop → IsSnapRefused (Some files) a.snap f → TellsPlace f (stopped_status stop)
+  place_stop : (stop : CommandFault) (f : SnapFault) → StopsExtend (Some files) a before now stop → IsSnapRefused (Some files) a.snap f → TellsPlace f (fault_status stop)
   place_stop (Missing n) f (next, lacks) refused = place_read files a n f refused next (lacked files n lacks)
   place_stop (TooLong n) f (next, long) refused = place_read files a n f refused next (too_long files n long)
   place_stop ShelfFault f rose refused = none rose
@@ -109,7 +109,7 @@ module _ (files : List File) (a : ResumeAsked) (before now : ℕ) (none : Rose b
   place_stop (SnapRefused g) f (other, kept) refused = one_place files a.snap g f other refused
   place_stop NoMemory f h refused = tt
 
-  line_stop : (stop : Stop) (m : Moment) (f : ScriptFault) → StopsExtend (Some files) a before now stop → HasSnap (Some files) a.snap m → IsScriptRefused (Some files) a.script f → TellsLine f (stopped_status stop)
+  line_stop : (stop : CommandFault) (m : Moment) (f : ScriptFault) → StopsExtend (Some files) a before now stop → HasSnap (Some files) a.snap m → IsScriptRefused (Some files) a.script f → TellsLine f (fault_status stop)
   line_stop (Missing n) m f (next, lacks) has refused = line_read files a n m f has refused next (lacked files n lacks)
   line_stop (TooLong n) m f (next, long) has refused = line_read files a n m f has refused next (too_long files n long)
   line_stop ShelfFault m f rose has refused = none rose
@@ -120,7 +120,7 @@ module _ (files : List File) (a : ResumeAsked) (before now : ℕ) (none : Rose b
   line_stop NoMemory m f h has refused = tt
 
   -- a run that is to be saved doesn't stop at its rounds, where a snapshot can have them, and else at nothing before
-  few_stop : (stop : Stop) (m : Moment) (es : List Event) → StopsExtend (Some files) a before now stop → HasBoth (Some files) a m es → m.made + a.rounds ≤ 1000000 → stopped_status stop ≡ stopped_status NoMemory
+  few_stop : (stop : CommandFault) (m : Moment) (es : List Event) → StopsExtend (Some files) a before now stop → HasBoth (Some files) a m es → m.made + a.rounds ≤ 1000000 → fault_status stop ≡ fault_status NoMemory
   few_stop SnapSize m es (many, kept) has few = absurd (omega (arith, few, many.many, ap (λ (n : Moment). n.made) (one_moment files a.snap m many.moment has.snap many.has.snap)))
   few_stop (Missing n) m es why has few = only_memory (Missing n) m es why has
   few_stop (TooLong n) m es why has few = only_memory (TooLong n) m es why has
@@ -130,7 +130,7 @@ module _ (files : List File) (a : ResumeAsked) (before now : ℕ) (none : Rose b
   few_stop (SnapRefused f) m es why has few = only_memory (SnapRefused f) m es why has
   few_stop NoMemory m es why has few = refl
 
-  many_stop : (stop : Stop) (m : Moment) (es : List Event) → StopsExtend (Some files) a before now stop → HasBoth (Some files) a m es → IsSnapSize (stopped_status stop)
+  many_stop : (stop : CommandFault) (m : Moment) (es : List Event) → StopsExtend (Some files) a before now stop → HasBoth (Some files) a m es → IsSnapSize (fault_status stop)
   many_stop SnapSize m es why has = tt
   many_stop (Missing n) m es (next, lacks) has = both_read files a n m es has next (lacked files n lacks)
   many_stop (TooLong n) m es (next, long) has = both_read files a n m es has next (too_long files n long)
@@ -141,7 +141,7 @@ module _ (files : List File) (a : ResumeAsked) (before now : ℕ) (none : Rose b
   many_stop NoMemory m es why has = tt
 
 -- What is known of a run that goes on, whichever way it ends.
-pub record GoesOn (a : ResumeAsked) (status : Status) (o : Outside) : Type 0 where
+pub record GoesOn (a : ResumeWords) (status : Status) (o : Outside) : Type 0 where
   pub moment : Moment
   pub events : List Event
   pub has : HasBoth o.files a moment events
@@ -172,7 +172,7 @@ module _ (m : Moment) (o : RunOutside) where
   stays_line : (fault : PowerFault) → StaysAt m fault o → (k : ℕ) → (line_at o.lines k).faults < (line_at o.lines' k).faults → ⊥
   stays_line fault down k h = omega (arith, h, ap (λ (ls : List Seen). (line_at ls k).faults) (untouched fault down).shown.lines)
 
-module _ (a : ResumeAsked) (status : Status) (o : Outside) where
+module _ (a : ResumeWords) (status : Status) (o : Outside) where
   -- `resume` does so
   resumes : (PlaysResume MissesArePaid) a status o → GoesOn a status o
   resumes p = record {
@@ -220,11 +220,11 @@ module _ (a : ResumeAsked) (status : Status) (o : Outside) where
       line (Err fault) (down, same) answer k h = absurd (stays_line p.moment (run_outside o) fault down k h)
 
 -- what both do: they stop as `extend` may, or go on
-abbrev pub Either : ResumeAsked → Status → Outside → Type 0
-Either a status o = (Stops (StopsExtend o.files a o.shelf o.shelf') status × Silent o) ⊎ GoesOn a status o
+abbrev pub Either : ResumeWords → Status → Outside → Type 0
+Either a status o = (Refuses (StopsExtend o.files a o.shelf o.shelf') status × Silent o) ⊎ GoesOn a status o
 
-abbrev pub DoesEither : (ResumeAsked → Status → Outside → Type 0) → Type 0
-DoesEither Follows = (a : ResumeAsked) (status : Status) (o : Outside) → Follows a status o → Either a status o
+abbrev pub DoesEither : (ResumeWords → Status → Outside → Type 0) → Type 0
+DoesEither Follows = (a : ResumeWords) (status : Status) (o : Outside) → Follows a status o → Either a status o
 
 pub resume_either : DoesEither (FollowsResume MissesArePaid)
 resume_either a status o (inl (stops, silent)) = inl (record { stop = stops.stop; is = stops.is; why = stops_extend o.files a o.shelf o.shelf' stops.stop stops.why }, silent)
@@ -235,14 +235,14 @@ extend_either a status o (inl stopped) = inl stopped
 extend_either a status o (inr p) = inr (extends a status o p)
 
 -- the shelf's files are known
-module _ (o : Outside) (files : List File) (a : ResumeAsked) (told : o.files ≡ Some files) where
-  stops_told : (stop : Stop) → StopsExtend o.files a o.shelf o.shelf' stop → StopsExtend (Some files) a o.shelf o.shelf' stop
+module _ (o : Outside) (files : List File) (a : ResumeWords) (told : o.files ≡ Some files) where
+  stops_told : (stop : CommandFault) → StopsExtend o.files a o.shelf o.shelf' stop → StopsExtend (Some files) a o.shelf o.shelf' stop
   stops_told stop why = subst (λ (f : Option (List File)). StopsExtend f a o.shelf o.shelf' stop) told why
 
   both_told : (m : Moment) (es : List Event) → HasBoth o.files a m es → HasBoth (Some files) a m es
   both_told m es has = subst (λ (f : Option (List File)). HasBoth f a m es) told has
 
-module _ (Follows : ResumeAsked → Status → Outside → Type 0) (does : DoesEither Follows) where
+module _ (Follows : ResumeWords → Status → Outside → Type 0) (does : DoesEither Follows) where
   pub tells_resume_missing : TellsResumeMissing Follows
   tells_resume_missing a status o files name follows told next lacks none = by (does a status o follows)
     where
@@ -279,7 +279,7 @@ module _ (Follows : ResumeAsked → Status → Outside → Type 0) (does : DoesE
       by (inr p) = p.names_line k h
 
 -- where it goes on, it does so from the one moment that the file holds
-module _ (o : Outside) (files : List File) (a : ResumeAsked) (status : Status) (told : o.files ≡ Some files) (m : Moment) (es : List Event) (has : HasBoth (Some files) a m es) (p : GoesOn a status o) where
+module _ (o : Outside) (files : List File) (a : ResumeWords) (status : Status) (told : o.files ≡ Some files) (m : Moment) (es : List Event) (has : HasBoth (Some files) a m es) (p : GoesOn a status o) where
   same_moment : m ≡ p.moment
   same_moment = one_moment files a.snap m p.moment has.snap (both_told o files a told p.moment p.events p.has).snap
 
@@ -289,7 +289,7 @@ module _ (o : Outside) (files : List File) (a : ResumeAsked) (status : Status) (
   still_size : (v : ℕ) → IsMisfit m.config.volumes o.drives v → IsSizeOf v status
   still_size v misfit = p.size v (subst (λ (n : Moment). IsMisfit n.config.volumes o.drives v) same_moment misfit)
 
-resume_told : (o : Outside) (files : List File) (a : ResumeAsked) (stop : Stop) → o.files ≡ Some files → StopsResume o.files a o.shelf o.shelf' stop → StopsResume (Some files) a o.shelf o.shelf' stop
+resume_told : (o : Outside) (files : List File) (a : ResumeWords) (stop : CommandFault) → o.files ≡ Some files → StopsResume o.files a o.shelf o.shelf' stop → StopsResume (Some files) a o.shelf o.shelf' stop
 resume_told o files a stop told why = subst (λ (f : Option (List File)). StopsResume f a o.shelf o.shelf' stop) told why
 
 pub completes_resume : CompletesResume

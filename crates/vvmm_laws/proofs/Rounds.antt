@@ -1,6 +1,6 @@
 -- Rounds of two runs from states that agree at far objects.
 use Rattle.std.proofs.Common.{◌≡◌, ◌==◌, ℕ, zero, suc, List, ◌++◌, filter, Bool, refl, sym, ap, ◌∙◌, subst}
-use Rattle.sys_flow.specs.Reach.{Object}
+use Rattle.sys_flow.specs.Reach.{ObjectPlace}
 use Rattle.vvmm_laws.proofs.Agree.{agree_beside}
 use Rattle.vvmm_laws.proofs.Commands.{Alike}
 use Rattle.vvmm_laws.proofs.Events.{GoesOn, events_alike, kept_events}
@@ -20,7 +20,7 @@ use Rattle.sys_state.specs.Transfers.{transfers}
 use Rattle.sys_state.specs.Turns.{turn, turns}
 use Rattle.sys_script.specs.declared.event.Event.{Event}
 
-module _ (c : Config) (far : Object → Bool) (closed : IsClosed c far) (line : ℕ) (silent : IsFarLine c far line) where
+module _ (c : Config) (far : ObjectPlace → Bool) (closed : IsClosed c far) (line : ℕ) (silent : IsFarLine c far line) where
   abbrev far_events : List Event → List Event
   far_events es = filter (is_far_event c far) es
 

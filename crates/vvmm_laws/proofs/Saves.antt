@@ -13,13 +13,13 @@ use Rattle.sys_runs.specs.Saved.{SavesRun}
 use Rattle.sys_runs.specs.declared.saving.Saved.{Saved}
 use Rattle.sys_script.specs.declared.event.Event.{Event}
 use Rattle.sys_system.specs.declared.power.PowerFault.{PowerFault}
-use Rattle.vvmm_call.specs.Answer.{AnswersSave, Outside, PlaysSave, run_outside, stopped_status}
+use Rattle.vvmm_call.specs.Answer.{AnswersSave, Outside, PlaysSave, run_outside, fault_status}
 use Rattle.vvmm_files.specs.Files.{FitsSnap, HasAll, HasAllToSave, HasConfig, HasNoRoom, IsNextFile, IsNextToSave, IsTooLarge, StopsRun, StopsSave}
-use Rattle.vvmm_files.specs.Words.{RunAsked}
+use Rattle.vvmm_files.specs.Words.{RunWords}
 use Rattle.vvmm_files.specs.declared.status.Status.{Status}
 use Rattle.vvmm_files.specs.declared.status.Status.TheVariants as answers
-use Rattle.vvmm_files.specs.declared.stop.Stop.{Stop}
-use Rattle.vvmm_files.specs.declared.stop.Stop.TheVariants.{Missing, TooLong, ShelfFault, Config as ConfigRefused, Script as ScriptRefused, SnapSize, Snap as SnapRefused, NoMemory}
+use Rattle.vvmm_files.specs.declared.stop.CommandFault.{CommandFault}
+use Rattle.vvmm_files.specs.declared.stop.CommandFault.TheVariants.{Missing, TooLong, ShelfFault, Config as ConfigRefused, Script as ScriptRefused, SnapSize, Snap as SnapRefused, NoMemory}
 use Rattle.vvmm_laws.proofs.Chosen.{line_stop, long_stop, misfit_told, missing_stop, only_memory, readable, rule_stop, same_config}
 use Rattle.vvmm_laws.proofs.Nexts.{all_read, config_read, script_read}
 use Rattle.vvmm_laws.proofs.Played.{NoLineRose, down_image, down_line_kept, down_served, down_size, saved_names_line, saved_served}
@@ -32,7 +32,7 @@ no_room : (text : List ℕ) (c : Config) → FitsSnap text c → IsTooLarge text
 no_room text c fits (inl more) = omega (arith, more, fits.bytes)
 no_room text c fits (inr more) = omega (arith, more, fits.short)
 
-module _ (files : List File) (a : RunAsked) where
+module _ (files : List File) (a : RunWords) where
   -- where a snapshot fits by one configuration of the files, it does so by each
   room_is : (c : Config) (has : HasConfig (Some files) a.config c) → FitsSnap has.text c → HasNoRoom (Some files) a → ⊥
   room_is c has fits large =
@@ -56,7 +56,7 @@ module _ (files : List File) (a : RunAsked) where
   room_read n large (inr (inr t)) none = room_is t.image.config t.image.has_config t.fits large
 
   -- a stop is one of a run, or a snapshot that would be too large
-  save_stop : (Told : Status → Type 0) (before now : ℕ) (stop : Stop) → StopsSave (Some files) a before now stop → (StopsRun (Some files) a before now stop → Told (stopped_status stop)) → (HasNoRoom (Some files) a → Told answers.SnapSize) → Told (stopped_status stop)
+  save_stop : (Told : Status → Type 0) (before now : ℕ) (stop : CommandFault) → StopsSave (Some files) a before now stop → (StopsRun (Some files) a before now stop → Told (fault_status stop)) → (HasNoRoom (Some files) a → Told answers.SnapSize) → Told (fault_status stop)
   save_stop Told before now (Missing n) (next, rest) run room = run (as_next n next, rest)
   save_stop Told before now (TooLong n) (next, rest) run room = run (as_next n next, rest)
   save_stop Told before now ShelfFault why run room = run why
@@ -66,7 +66,7 @@ module _ (files : List File) (a : RunAsked) where
   save_stop Told before now (SnapRefused f) why run room = run why
   save_stop Told before now NoMemory why run room = run why
 
-  size_stop : (before now : ℕ) → (Rose before now → ⊥) → (stop : Stop) → StopsSave (Some files) a before now stop → HasNoRoom (Some files) a → IsSnapSize (stopped_status stop)
+  size_stop : (before now : ℕ) → (Rose before now → ⊥) → (stop : CommandFault) → StopsSave (Some files) a before now stop → HasNoRoom (Some files) a → IsSnapSize (fault_status stop)
   size_stop before now none (Missing n) (next, lacks) large = room_read n large next (lacked files n lacks)
   size_stop before now none (TooLong n) (next, long) large = room_read n large next (too_long files n long)
   size_stop before now none ShelfFault rose large = none rose
@@ -77,15 +77,15 @@ module _ (files : List File) (a : RunAsked) where
   size_stop before now none NoMemory why large = tt
 
 -- The shelf's files are known, and the fetch stopped.
-module _ (o : Outside) (files : List File) (a : RunAsked) (told : o.files ≡ Some files) (Told : Status → Type 0) where
-  stopped : (stop : Stop) (status : Status) → status ≡ stopped_status stop → StopsSave o.files a o.shelf o.shelf' stop → (StopsRun (Some files) a o.shelf o.shelf' stop → Told (stopped_status stop)) → (HasNoRoom (Some files) a → Told answers.SnapSize) → Told status
+module _ (o : Outside) (files : List File) (a : RunWords) (told : o.files ≡ Some files) (Told : Status → Type 0) where
+  stopped : (stop : CommandFault) (status : Status) → status ≡ fault_status stop → StopsSave o.files a o.shelf o.shelf' stop → (StopsRun (Some files) a o.shelf o.shelf' stop → Told (fault_status stop)) → (HasNoRoom (Some files) a → Told answers.SnapSize) → Told status
   stopped stop status is why run room =
       subst Told (sym is) (save_stop files a Told o.shelf o.shelf' stop (subst (λ (f : Option (List File)). StopsSave f a o.shelf o.shelf' stop) told why) run room)
 
-has_told : (o : Outside) (files : List File) (a : RunAsked) (status : Status) (p : (PlaysSave MissesArePaid) a status o) → o.files ≡ Some files → HasAllToSave (Some files) a p.text p.config p.events p.images
+has_told : (o : Outside) (files : List File) (a : RunWords) (status : Status) (p : (PlaysSave MissesArePaid) a status o) → o.files ≡ Some files → HasAllToSave (Some files) a p.text p.config p.events p.images
 has_told o files a status p told = subst (λ (f : Option (List File)). HasAllToSave f a p.text p.config p.events p.images) told p.has
 
-module _ (a : RunAsked) (status : Status) (o : Outside) (p : (PlaysSave MissesArePaid) a status o) where
+module _ (a : RunWords) (status : Status) (o : Outside) (p : (PlaysSave MissesArePaid) a status o) where
   saves_served : first_misfit p.config.guests p.images ≡ None → All (FitsDrive o.drives) p.config.volumes → ((d : ℕ) → HasFailed p.config.volumes o.drives o.drives' d → ⊥) → NoLineRose (run_outside o) → (Rose o.out.faults o.out'.faults → ⊥) → IsServed status
   saves_served fits drives_fit could lines kept = by p.result p.saves p.answers
     where

@@ -8,18 +8,18 @@ use Rattle.vvmm_files.specs.declared.answer.Answer.TheVariants as answers
 use Rattle.vasm_text.specs.declared.fault.AsmFault.{AsmFault}
 use Rattle.sys_objects.specs.declared.errors.ConfigFault.{ConfigFault}
 use Rattle.sys_objects.specs.declared.records.Config.{Config}
-use Rattle.vvmm_call.specs.Answer.{shelf_and_sink, status_of, stopped_status}
+use Rattle.vvmm_call.specs.Answer.{shelf_and_sink, status_of, fault_status}
 use Rattle.vvmm_files.specs.Files.{HasConfig, IsConfigRefused, IsRead, StopsConfig}
 use Rattle.vvmm_files.specs.declared.status.Status.{Status}
-use Rattle.vvmm_files.specs.declared.stop.Stop.{Stop}
-use Rattle.vvmm_files.specs.declared.stop.Stop.TheVariants.{Missing, TooLong, ShelfFault, Config as ConfigRefused, Script as ScriptRefused, SnapSize, Snap as SnapRefused, NoMemory}
+use Rattle.vvmm_files.specs.declared.stop.CommandFault.{CommandFault}
+use Rattle.vvmm_files.specs.declared.stop.CommandFault.TheVariants.{Missing, TooLong, ShelfFault, Config as ConfigRefused, Script as ScriptRefused, SnapSize, Snap as SnapRefused, NoMemory}
 use Rattle.vvmm_laws.proofs.Played.{closes_served}
 use Rattle.vvmm_laws.proofs.Told.{lacked, not_both, not_config, not_long, one_error, one_rule, one_text, read_as, too_long}
 use Rattle.vvmm_laws.specs.Complete.{CompletesConfig, CompletesFile, IsLong, IsMissing, IsServed, IsTooLong, TellsAsm, TellsConfigMissing, TellsConfigRule, TellsConfigTooLong, TellsFileMissing, TellsFileRefused, TellsFileTooLong, TellsRule}
 
 module _ (files : List File) (name : List ℕ) (before now : ℕ) (none : Rose before now → ⊥) where
   -- the fetch of a configuration stops
-  served_stop : (stop : Stop) (c : Config) → StopsConfig (Some files) name before now stop → HasConfig (Some files) name c → IsServed (stopped_status stop)
+  served_stop : (stop : CommandFault) (c : Config) → StopsConfig (Some files) name before now stop → HasConfig (Some files) name c → IsServed (fault_status stop)
   served_stop (Missing n) c (same, lacks) has = read_as files name n has.text same (lacked files n lacks) has.read
   served_stop (TooLong n) c (same, long) has = read_as files name n has.text same (too_long files n long) has.read
   served_stop ShelfFault c rose has = none rose
@@ -29,7 +29,7 @@ module _ (files : List File) (name : List ℕ) (before now : ℕ) (none : Rose b
   served_stop (SnapRefused f) c h has = h
   served_stop NoMemory c h has = tt
 
-  missing_stop : (stop : Stop) → StopsConfig (Some files) name before now stop → held files name ≡ None → IsMissing name (stopped_status stop)
+  missing_stop : (stop : CommandFault) → StopsConfig (Some files) name before now stop → held files name ≡ None → IsMissing name (fault_status stop)
   missing_stop (Missing n) (same, rest) lacks = same
   missing_stop (TooLong n) (same, long) lacks = not_long files name n (sym same) lacks long
   missing_stop ShelfFault rose lacks = none rose
@@ -39,7 +39,7 @@ module _ (files : List File) (name : List ℕ) (before now : ℕ) (none : Rose b
   missing_stop (SnapRefused f) h lacks = h
   missing_stop NoMemory h lacks = tt
 
-  long_stop : (stop : Stop) → StopsConfig (Some files) name before now stop → IsLong files name → IsTooLong name (stopped_status stop)
+  long_stop : (stop : CommandFault) → StopsConfig (Some files) name before now stop → IsLong files name → IsTooLong name (fault_status stop)
   long_stop (TooLong n) (same, rest) long = same
   long_stop (Missing n) (same, lacks) long = not_long files n name same lacks long
   long_stop ShelfFault rose long = none rose
@@ -49,7 +49,7 @@ module _ (files : List File) (name : List ℕ) (before now : ℕ) (none : Rose b
   long_stop (SnapRefused f) h long = h
   long_stop NoMemory h long = tt
 
-  rule_stop : (stop : Stop) (f : ConfigFault) → StopsConfig (Some files) name before now stop → IsConfigRefused (Some files) name f → TellsRule f (stopped_status stop)
+  rule_stop : (stop : CommandFault) (f : ConfigFault) → StopsConfig (Some files) name before now stop → IsConfigRefused (Some files) name f → TellsRule f (fault_status stop)
   rule_stop (Missing n) f (same, lacks) refused = read_as files name n refused.text same (lacked files n lacks) refused.read
   rule_stop (TooLong n) f (same, long) refused = read_as files name n refused.text same (too_long files n long) refused.read
   rule_stop ShelfFault f rose refused = none rose
@@ -60,7 +60,7 @@ module _ (files : List File) (name : List ℕ) (before now : ℕ) (none : Rose b
   rule_stop NoMemory f h refused = tt
 
 -- the shelf's files are known
-stops_told : (o : ShelfAndSink) (files : List File) (name : List ℕ) (stop : Stop) → o.files ≡ Some files → StopsConfig o.files name o.shelf o.shelf' stop → StopsConfig (Some files) name o.shelf o.shelf' stop
+stops_told : (o : ShelfAndSink) (files : List File) (name : List ℕ) (stop : CommandFault) → o.files ≡ Some files → StopsConfig o.files name o.shelf o.shelf' stop → StopsConfig (Some files) name o.shelf o.shelf' stop
 stops_told o files name stop told why = subst (λ (f : Option (List File)). StopsConfig f name o.shelf o.shelf' stop) told why
 
 has_told : (o : ShelfAndSink) (files : List File) (name : List ℕ) (c : Config) → o.files ≡ Some files → HasConfig o.files name c → HasConfig (Some files) name c

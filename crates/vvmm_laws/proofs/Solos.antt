@@ -11,23 +11,23 @@ use Rattle.sys_devices.specs.Rows.{FitsDrive}
 use Rattle.sys_guests.specs.Loads.{first_misfit}
 use Rattle.sys_objects.specs.declared.records.VolumeRow.{VolumeRow}
 use Rattle.sys_state.specs.Places.{place_of}
-use Rattle.vvmm_call.specs.Answer.{FollowsSolo, Outside, run_outside, stopped_status}
+use Rattle.vvmm_call.specs.Answer.{FollowsSolo, Outside, run_outside, fault_status}
 use Rattle.vvmm_files.specs.Files.{IsRead, StopsFile}
 use Rattle.vvmm_files.specs.Solo.{load_address, memory_size, solo_config}
-use Rattle.vvmm_files.specs.Words.{Asked}
+use Rattle.vvmm_files.specs.Words.{SoloWords}
 use Rattle.vvmm_files.specs.declared.status.Status.{Status}
-use Rattle.vvmm_files.specs.declared.stop.Stop.{Stop}
-use Rattle.vvmm_files.specs.declared.stop.Stop.TheVariants.{Missing, TooLong, ShelfFault, Config as ConfigRefused, Script as ScriptRefused, SnapSize, Snap as SnapRefused, NoMemory}
+use Rattle.vvmm_files.specs.declared.stop.CommandFault.{CommandFault}
+use Rattle.vvmm_files.specs.declared.stop.CommandFault.TheVariants.{Missing, TooLong, ShelfFault, Config as ConfigRefused, Script as ScriptRefused, SnapSize, Snap as SnapRefused, NoMemory}
 use Rattle.vvmm_laws.proofs.Played.{plays_image, plays_names_line, plays_served}
 use Rattle.vvmm_laws.proofs.Told.{lacked, not_long, one_text, read_as, too_long}
 use Rattle.vvmm_laws.specs.Complete.{CompletesImage, IsImageOf, IsLong, IsMissing, IsServed, IsTooLong, TellsImageLineFault, TellsImageMisfit, TellsImageMissing, TellsImageTooLong, line_at}
 
 -- the image fits, and there is no volume
-no_misfit : (a : Asked) (image : List ℕ) → load_address + length image ≤ memory_size → first_misfit (solo_config a).guests (image ∷ []) ≡ None
+no_misfit : (a : SoloWords) (image : List ℕ) → load_address + length image ≤ memory_size → first_misfit (solo_config a).guests (image ∷ []) ≡ None
 no_misfit a image fits = ap (λ b. place_of (λ (c : Bool). c) (b ∷ [])) (le-ltb memory_size (load_address + length image) fits)
 
 -- or it doesn't fit
-misfit : (a : Asked) (image : List ℕ) → memory_size < load_address + length image → first_misfit (solo_config a).guests (image ∷ []) ≡ Some 0
+misfit : (a : SoloWords) (image : List ℕ) → memory_size < load_address + length image → first_misfit (solo_config a).guests (image ∷ []) ≡ Some 0
 misfit a image more = ap (λ b. place_of (λ (c : Bool). c) (b ∷ [])) (lt-ltb memory_size (load_address + length image) more)
 
 no_volume : (drives drives' : List SeenDrive) (d : ℕ) → HasFailed [] drives drives' d → ⊥
@@ -41,7 +41,7 @@ all_fit drives k e h = absurd (omega (arith, h))
 
 module _ (files : List File) (name : List ℕ) (before now : ℕ) where
   -- the fetch of one file stops
-  only_memory : (stop : Stop) (text : List ℕ) → StopsFile (Some files) name before now stop → IsRead (Some files) name text → (Rose before now → ⊥) → stopped_status stop ≡ stopped_status NoMemory
+  only_memory : (stop : CommandFault) (text : List ℕ) → StopsFile (Some files) name before now stop → IsRead (Some files) name text → (Rose before now → ⊥) → fault_status stop ≡ fault_status NoMemory
   only_memory (Missing n) text (same, lacks) read none = absurd (read_as files name n text same (lacked files n lacks) read)
   only_memory (TooLong n) text (same, long) read none = absurd (read_as files name n text same (too_long files n long) read)
   only_memory ShelfFault text rose read none = absurd (none rose)
@@ -51,7 +51,7 @@ module _ (files : List File) (name : List ℕ) (before now : ℕ) where
   only_memory (SnapRefused f) text h read none = absurd h
   only_memory NoMemory text h read none = refl
 
-  missing_stop : (stop : Stop) → StopsFile (Some files) name before now stop → held files name ≡ None → (Rose before now → ⊥) → IsMissing name (stopped_status stop)
+  missing_stop : (stop : CommandFault) → StopsFile (Some files) name before now stop → held files name ≡ None → (Rose before now → ⊥) → IsMissing name (fault_status stop)
   missing_stop (Missing n) (same, rest) lacks none = same
   missing_stop (TooLong n) (same, long) lacks none = not_long files name n (sym same) lacks long
   missing_stop ShelfFault rose lacks none = none rose
@@ -61,7 +61,7 @@ module _ (files : List File) (name : List ℕ) (before now : ℕ) where
   missing_stop (SnapRefused f) h lacks none = h
   missing_stop NoMemory h lacks none = tt
 
-  long_stop : (stop : Stop) → StopsFile (Some files) name before now stop → IsLong files name → (Rose before now → ⊥) → IsTooLong name (stopped_status stop)
+  long_stop : (stop : CommandFault) → StopsFile (Some files) name before now stop → IsLong files name → (Rose before now → ⊥) → IsTooLong name (fault_status stop)
   long_stop (TooLong n) (same, rest) long none = same
   long_stop (Missing n) (same, lacks) long none = not_long files n name same lacks long
   long_stop ShelfFault rose long none = none rose
@@ -72,7 +72,7 @@ module _ (files : List File) (name : List ℕ) (before now : ℕ) where
   long_stop NoMemory h long none = tt
 
 -- the shelf's files are known
-stops_told : (o : Outside) (files : List File) (name : List ℕ) (stop : Stop) → o.files ≡ Some files → StopsFile o.files name o.shelf o.shelf' stop → StopsFile (Some files) name o.shelf o.shelf' stop
+stops_told : (o : Outside) (files : List File) (name : List ℕ) (stop : CommandFault) → o.files ≡ Some files → StopsFile o.files name o.shelf o.shelf' stop → StopsFile (Some files) name o.shelf o.shelf' stop
 stops_told o files name stop told why = subst (λ (f : Option (List File)). StopsFile f name o.shelf o.shelf' stop) told why
 
 read_told : (o : Outside) (files : List File) (name text : List ℕ) → o.files ≡ Some files → IsRead o.files name text → IsRead (Some files) name text

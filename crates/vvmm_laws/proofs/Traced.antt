@@ -13,7 +13,7 @@ use Rattle.sys_trace.specs.Trace.{trace_of}
 use Rattle.vvmm_call.specs.Answer.{AnswersTrace, FollowsSolo, FollowsTrace, Outside, PlaysTrace, run_outside}
 use Rattle.vvmm_files.specs.Solo.{solo_config, solo_guest}
 use Rattle.vvmm_call.specs.Summary.{summary}
-use Rattle.vvmm_files.specs.Words.{Asked}
+use Rattle.vvmm_files.specs.Words.{SoloWords}
 use Rattle.vvmm_files.specs.declared.status.Status.{Status}
 use Rattle.vvmm_laws.proofs.Solos.{completes_solo, tells_solo_device, tells_solo_image, tells_solo_missing, tells_solo_too_long}
 use Rattle.vvmm_laws.specs.Complete.{CompletesImage, TellsImageLineFault, TellsImageMisfit, TellsImageMissing, TellsImageTooLong}
@@ -28,10 +28,10 @@ puts_others false out out' bytes others (same, shown) = (record { shown = shown_
 puts_others true out out' bytes others (rose, cut) = (record { shown = shown_after out.shown (take zero others); faults = out'.faults }, refl, (rose, (zero, omega arith, refl)))
 
 -- the summary alone is put
-abbrev Told : Asked → Status → Outside → Type 0
+abbrev Told : SoloWords → Status → Outside → Type 0
 Told a status o = (out : Seen) × (out.faults ≡ o.out'.faults) × (FollowsSolo MissesArePaid) a status (record o { out' = out })
 
-by_result : (a : Asked) (status : Status) (o : Outside) (p : (PlaysTrace MissesArePaid) a status o) (trace : List ℕ) (result : Result Ran PowerFault)
+by_result : (a : SoloWords) (status : Status) (o : Outside) (p : (PlaysTrace MissesArePaid) a status o) (trace : List ℕ) (result : Result Ran PowerFault)
     → (Runs MissesArePaid) (solo_config a) (p.image ∷ []) [] 1 result (run_outside o) → AnswersTrace trace result status o.out o.out' → Told a status o
 by_result a status o p trace (Err fault) runs answers = (
   o.out',

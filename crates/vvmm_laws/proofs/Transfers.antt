@@ -1,7 +1,7 @@
 -- Transfers in states that agree at far objects.
 use Rattle.std.proofs.Common.{◌≡◌, ◌==◌, ℕ, suc, List, [], ◌∷◌, ◌++◌, length, Bool, true, false, not, ◌&&◌, refl, sym, ap, ◌∙◌, subst, Option, Some, None, slice_get, slice_index_or, slice_set, if◌then◌else◌, true≢false}
 use Rattle.std.specs.Prelude.{nat_le, nat_lt}
-use Rattle.sys_flow.specs.Reach.{IsPrinterAt, Object}
+use Rattle.sys_flow.specs.Reach.{IsPrinterAt, ObjectPlace}
 use Rattle.vvmm_laws.proofs.Agree.{AgreeFrom, agree_changed, agree_index, agree_refl, agree_sym, agree_trans, agree_unchanged}
 use Rattle.vvmm_laws.proofs.Connected.{other_line}
 use Rattle.vvmm_laws.proofs.Far.{IsFarLine, MountLeads, MountsLead, far_guest, far_volume, mounted_far, printer_near, written_near}
@@ -72,7 +72,7 @@ pub each_weaker : {X : Type 0} (P Q : X → Type 0) → ((x : X) → P x → Q x
 each_weaker P Q h [] e = tt
 each_weaker P Q h (x ∷ xs) e = (h x e.0, each_weaker P Q h xs e.1)
 
-module _ (c : Config) (far : Object → Bool) (closed : IsClosed c far) where
+module _ (c : Config) (far : ObjectPlace → Bool) (closed : IsClosed c far) where
   abbrev Agree : Volumes → Volumes → Type 0
   Agree vs us = AgreeFrom (far_volume c far) 0 vs us
 

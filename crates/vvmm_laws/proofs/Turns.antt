@@ -1,6 +1,6 @@
 -- The guests' turns in states that agree at far objects.
 use Rattle.std.proofs.Common.{◌≡◌, ℕ, suc, List, [], ◌∷◌, ◌++◌, Bool, true, false, refl, sym, ap, ◌∙◌, Option, if◌then◌else◌}
-use Rattle.sys_flow.specs.Reach.{Object}
+use Rattle.sys_flow.specs.Reach.{ObjectPlace}
 use Rattle.vvmm_laws.proofs.Agree.{AgreeFrom}
 use Rattle.vvmm_laws.proofs.Connected.{console_alike, console_near}
 use Rattle.vvmm_laws.proofs.Far.{IsFarLine, far_guest, far_terminal}
@@ -17,7 +17,7 @@ use Rattle.sys_state.specs.State.{bytes_on}
 use Rattle.sys_state.specs.Turns.{turn_puts}
 use Rattle.vm_state.specs.State.{Guest}
 
-module _ (c : Config) (far : Object → Bool) (closed : IsClosed c far) (line : ℕ) (silent : IsFarLine c far line) where
+module _ (c : Config) (far : ObjectPlace → Bool) (closed : IsClosed c far) (line : ℕ) (silent : IsFarLine c far line) where
   module _ (os us : List (Option ℕ)) (p : Pairs (ConnectFits c) c.terminals os) (q : Pairs (ConnectFits c) c.terminals us) (a : AgreeFrom (far_terminal c far) 0 os us) where
     -- what a turn shows of one guest
     one_near : (g : ℕ) → far_guest c far g ≡ false → (ws : List (Option ℕ)) → Pairs (ConnectFits c) c.terminals ws → (shown : List ℕ) → bytes_on line (on_console (console_of c.terminals ws g) shown) ≡ []

@@ -14,7 +14,7 @@ use Rattle.sys_objects.specs.declared.records.Config.{Config}
 use Rattle.sys_state.specs.Bytes.{devices_of}
 use Rattle.vvmm_call.specs.Answer.{FollowsLive, Outside}
 use Rattle.vvmm_files.specs.Files.{HasConfig}
-use Rattle.vvmm_files.specs.Words.{LiveAsked}
+use Rattle.vvmm_files.specs.Words.{LiveWords}
 use Rattle.vvmm_files.specs.declared.status.Status.TheVariants.{Done}
 use Rattle.vvmm_laws.specs.Complete.{line_at}
 use Rattle.vvmm_laws.specs.Live.{AreAlikeTo}
@@ -30,7 +30,7 @@ abbrev pub AreBlocksKnown : Config → List SeenDrive → Type 0
 AreBlocksKnown c drives = All (λ v. (blocks : List (List ℕ)) × ((drive_at drives v.drive).blocks ≡ Some blocks)) c.volumes
 
 -- Both runs are of one configuration, over the same files and drives; these lines were taken in each.
-pub record AreOfOne (a : LiveAsked) (c : Config) (o o' : Outside) (p p' : Operator) (typed typed' : List (List ℕ)) : Type 0 where
+pub record AreOfOne (a : LiveWords) (c : Config) (o o' : Outside) (p p' : Operator) (typed typed' : List (List ℕ)) : Type 0 where
   pub files : List File
   pub told : o.files ≡ Some files
   pub told' : o'.files ≡ Some files
@@ -50,4 +50,4 @@ pub record AgreeTo (c : Config) (to : AccessClass) (o o' : Outside) : Type 0 whe
   pub drives : All (λ v. does_flow v.class to ≡ true → (drive_at o.drives' v.drive).blocks ≡ (drive_at o'.drives' v.drive).blocks) c.volumes
 
 abbrev pub LivesAgree : Type 0
-LivesAgree = (a : LiveAsked) (c : Config) (o o' : Outside) (p p' : Operator) (typed typed' : List (List ℕ)) (to : AccessClass) → (FollowsLive MissesArePaid) a Done o p → (FollowsLive MissesArePaid) a Done o' p' → AreOfOne a c o o' p p' typed typed' → AreAlikeTo c to typed typed' → AgreeTo c to o o'
+LivesAgree = (a : LiveWords) (c : Config) (o o' : Outside) (p p' : Operator) (typed typed' : List (List ℕ)) (to : AccessClass) → (FollowsLive MissesArePaid) a Done o p → (FollowsLive MissesArePaid) a Done o' p' → AreOfOne a c o o' p p' typed typed' → AreAlikeTo c to typed typed' → AgreeTo c to o o'

@@ -18,9 +18,9 @@ use Rattle.sys_devices.specs.declared.device.Device.TheVariants as devices
 use Rattle.vvmm_call.specs.Answer.{FollowsAudit, FollowsConfig, FollowsLoad, FollowsRun, Outside, ShowsFile, run_outside, shelf_and_sink}
 use Rattle.vvmm_files.specs.Files.{HasAll, HasConfig, IsConfigRefused, IsNextFile, IsNextOfAudit, IsRead, IsScriptRefused}
 use Rattle.vvmm_files.specs.Solo.{load_address, memory_size}
-use Rattle.vvmm_files.specs.Words.{Asked, AuditAsked, RunAsked}
+use Rattle.vvmm_files.specs.Words.{SoloWords, AuditWords, RunWords}
 use Rattle.vvmm_files.specs.declared.status.Status.{Status}
-use Rattle.vvmm_files.specs.declared.status.Status.TheVariants.{Done, Missing, TooLong, Config as ConfigRefused, Script as ScriptRefused, Image, VolumeSize, DriveIn, Device as DeviceFault, Asm, Audit, OutFault, NoMemory}
+use Rattle.vvmm_files.specs.declared.status.Status.TheVariants.{Done, Missing, TooLong, Config as ConfigRefused, Script as ScriptRefused, Image, VolumeSize, DriveIn, DeviceFault, Asm, Audit, OutFault, NoMemory}
 
 abbrev pub line_at : List Seen → ℕ → Seen
 line_at lines k = slice_index_or lines k unseen
@@ -98,62 +98,62 @@ abbrev pub IsLong : List File → List ℕ → Type 0
 IsLong files name = (bytes : List ℕ) × (held files name ≡ Some bytes) × (file_limit < length bytes)
 
 -- `solo` and `trace`, by what follows: a held image within the limit that fits, and no risen count, are served
-abbrev pub CompletesImage : (Asked → Status → Outside → Type 0) → Type 0
-CompletesImage Follows = (a : Asked) (status : Status) (o : Outside) (image : List ℕ) (files : List File) → Follows a status o → o.files ≡ Some files → IsRead (Some files) a.image image → load_address + length image ≤ memory_size → NoneRose o
+abbrev pub CompletesImage : (SoloWords → Status → Outside → Type 0) → Type 0
+CompletesImage Follows = (a : SoloWords) (status : Status) (o : Outside) (image : List ℕ) (files : List File) → Follows a status o → o.files ≡ Some files → IsRead (Some files) a.image image → load_address + length image ≤ memory_size → NoneRose o
     → IsServed status
 
-abbrev pub TellsImageMissing : (Asked → Status → Outside → Type 0) → Type 0
-TellsImageMissing Follows = (a : Asked) (status : Status) (o : Outside) (files : List File) → Follows a status o → o.files ≡ Some files → held files a.image ≡ None → (Rose o.shelf o.shelf' → ⊥) → IsMissing a.image status
+abbrev pub TellsImageMissing : (SoloWords → Status → Outside → Type 0) → Type 0
+TellsImageMissing Follows = (a : SoloWords) (status : Status) (o : Outside) (files : List File) → Follows a status o → o.files ≡ Some files → held files a.image ≡ None → (Rose o.shelf o.shelf' → ⊥) → IsMissing a.image status
 
-abbrev pub TellsImageTooLong : (Asked → Status → Outside → Type 0) → Type 0
-TellsImageTooLong Follows = (a : Asked) (status : Status) (o : Outside) (files : List File) → Follows a status o → o.files ≡ Some files → IsLong files a.image → (Rose o.shelf o.shelf' → ⊥) → IsTooLong a.image status
+abbrev pub TellsImageTooLong : (SoloWords → Status → Outside → Type 0) → Type 0
+TellsImageTooLong Follows = (a : SoloWords) (status : Status) (o : Outside) (files : List File) → Follows a status o → o.files ≡ Some files → IsLong files a.image → (Rose o.shelf o.shelf' → ⊥) → IsTooLong a.image status
 
 -- the answer names an image that doesn't fit
-abbrev pub TellsImageMisfit : (Asked → Status → Outside → Type 0) → Type 0
-TellsImageMisfit Follows = (a : Asked) (status : Status) (o : Outside) (image : List ℕ) (files : List File) → Follows a status o → o.files ≡ Some files → IsRead (Some files) a.image image → memory_size < load_address + length image → (Rose o.shelf o.shelf' → ⊥)
+abbrev pub TellsImageMisfit : (SoloWords → Status → Outside → Type 0) → Type 0
+TellsImageMisfit Follows = (a : SoloWords) (status : Status) (o : Outside) (image : List ℕ) (files : List File) → Follows a status o → o.files ≡ Some files → IsRead (Some files) a.image image → memory_size < load_address + length image → (Rose o.shelf o.shelf' → ⊥)
     → IsImageOf 0 status
 
 -- where a line's count is greater, it is named or one of a lower number
-abbrev pub TellsImageLineFault : (Asked → Status → Outside → Type 0) → Type 0
-TellsImageLineFault Follows = (a : Asked) (status : Status) (o : Outside) (k : ℕ) → Follows a status o → (line_at o.lines k).faults < (line_at o.lines' k).faults → NamesLine k status
+abbrev pub TellsImageLineFault : (SoloWords → Status → Outside → Type 0) → Type 0
+TellsImageLineFault Follows = (a : SoloWords) (status : Status) (o : Outside) (k : ℕ) → Follows a status o → (line_at o.lines k).faults < (line_at o.lines' k).faults → NamesLine k status
 
 -- `run`: held files that stand for a configuration, a script and images that fit, drives that fit, and no risen count, are served
 abbrev pub CompletesRun : Type 0
-CompletesRun = (a : RunAsked) (status : Status) (o : Outside) (files : List File) (c : Config) (es : List Event) (images : List (List ℕ)) → (FollowsRun MissesArePaid) a status o → o.files ≡ Some files → HasAll (Some files) a c es images
+CompletesRun = (a : RunWords) (status : Status) (o : Outside) (files : List File) (c : Config) (es : List Event) (images : List (List ℕ)) → (FollowsRun MissesArePaid) a status o → o.files ≡ Some files → HasAll (Some files) a c es images
     → first_misfit c.guests images ≡ None → All (FitsDrive o.drives) c.volumes → NoneRose o → IsServed status
 
 -- the answer names the first file that the shelf lacks as missing, and the first too long one as too long, where the shelf did
 -- not fail
 abbrev pub TellsRunMissing : Type 0
-TellsRunMissing = (a : RunAsked) (status : Status) (o : Outside) (files : List File) (name : List ℕ) → (FollowsRun MissesArePaid) a status o → o.files ≡ Some files → IsNextFile (Some files) a name → held files name ≡ None → (Rose o.shelf o.shelf' → ⊥) → IsMissing name status
+TellsRunMissing = (a : RunWords) (status : Status) (o : Outside) (files : List File) (name : List ℕ) → (FollowsRun MissesArePaid) a status o → o.files ≡ Some files → IsNextFile (Some files) a name → held files name ≡ None → (Rose o.shelf o.shelf' → ⊥) → IsMissing name status
 
 abbrev pub TellsRunTooLong : Type 0
-TellsRunTooLong = (a : RunAsked) (status : Status) (o : Outside) (files : List File) (name : List ℕ) → (FollowsRun MissesArePaid) a status o → o.files ≡ Some files → IsNextFile (Some files) a name → IsLong files name → (Rose o.shelf o.shelf' → ⊥) → IsTooLong name status
+TellsRunTooLong = (a : RunWords) (status : Status) (o : Outside) (files : List File) (name : List ℕ) → (FollowsRun MissesArePaid) a status o → o.files ≡ Some files → IsNextFile (Some files) a name → IsLong files name → (Rose o.shelf o.shelf' → ⊥) → IsTooLong name status
 
 -- the answer names the fault of a configuration that is refused, or of a script
 abbrev pub TellsRunRule : Type 0
-TellsRunRule = (a : RunAsked) (status : Status) (o : Outside) (files : List File) (f : ConfigFault) → (FollowsRun MissesArePaid) a status o → o.files ≡ Some files → IsConfigRefused (Some files) a.config f → (Rose o.shelf o.shelf' → ⊥) → TellsRule f status
+TellsRunRule = (a : RunWords) (status : Status) (o : Outside) (files : List File) (f : ConfigFault) → (FollowsRun MissesArePaid) a status o → o.files ≡ Some files → IsConfigRefused (Some files) a.config f → (Rose o.shelf o.shelf' → ⊥) → TellsRule f status
 
 abbrev pub TellsRunLine : Type 0
-TellsRunLine = (a : RunAsked) (status : Status) (o : Outside) (files : List File) (c : Config) (f : ScriptFault) → (FollowsRun MissesArePaid) a status o → o.files ≡ Some files → HasConfig (Some files) a.config c → IsScriptRefused (Some files) a.script f → (Rose o.shelf o.shelf' → ⊥)
+TellsRunLine = (a : RunWords) (status : Status) (o : Outside) (files : List File) (c : Config) (f : ScriptFault) → (FollowsRun MissesArePaid) a status o → o.files ≡ Some files → HasConfig (Some files) a.config c → IsScriptRefused (Some files) a.script f → (Rose o.shelf o.shelf' → ⊥)
     → TellsLine f status
 
 -- of held files that stand for a configuration, a script and images, the answer names the first image that doesn't fit, and the
 -- first volume whose drive has another number of blocks, where the images fit and no drive failed
 abbrev pub TellsRunImage : Type 0
-TellsRunImage = (a : RunAsked) (status : Status) (o : Outside) (files : List File) (c : Config) (es : List Event) (images : List (List ℕ)) (g : ℕ) → (FollowsRun MissesArePaid) a status o → o.files ≡ Some files → HasAll (Some files) a c es images
+TellsRunImage = (a : RunWords) (status : Status) (o : Outside) (files : List File) (c : Config) (es : List Event) (images : List (List ℕ)) (g : ℕ) → (FollowsRun MissesArePaid) a status o → o.files ≡ Some files → HasAll (Some files) a c es images
     → first_misfit c.guests images ≡ Some g → (Rose o.shelf o.shelf' → ⊥) → IsImageOf g status
 
 abbrev pub TellsRunSize : Type 0
-TellsRunSize = (a : RunAsked) (status : Status) (o : Outside) (files : List File) (c : Config) (es : List Event) (images : List (List ℕ)) (v : ℕ) → (FollowsRun MissesArePaid) a status o → o.files ≡ Some files → HasAll (Some files) a c es images
+TellsRunSize = (a : RunWords) (status : Status) (o : Outside) (files : List File) (c : Config) (es : List Event) (images : List (List ℕ)) (v : ℕ) → (FollowsRun MissesArePaid) a status o → o.files ≡ Some files → HasAll (Some files) a c es images
     → first_misfit c.guests images ≡ None → IsMisfit c.volumes o.drives v → NoneRose o → IsSizeOf v status
 
 -- where a line's count is greater, it is named or one of a lower number; where a drive's is, a line or it or a lower drive
 abbrev pub TellsRunLineFault : Type 0
-TellsRunLineFault = (a : RunAsked) (status : Status) (o : Outside) (k : ℕ) → (FollowsRun MissesArePaid) a status o → (line_at o.lines k).faults < (line_at o.lines' k).faults → NamesLine k status
+TellsRunLineFault = (a : RunWords) (status : Status) (o : Outside) (k : ℕ) → (FollowsRun MissesArePaid) a status o → (line_at o.lines k).faults < (line_at o.lines' k).faults → NamesLine k status
 
 abbrev pub TellsRunDriveFault : Type 0
-TellsRunDriveFault = (a : RunAsked) (status : Status) (o : Outside) (d : ℕ) → (FollowsRun MissesArePaid) a status o → (drive_at o.drives d).faults < (drive_at o.drives' d).faults → NamesDrive d status
+TellsRunDriveFault = (a : RunWords) (status : Status) (o : Outside) (d : ℕ) → (FollowsRun MissesArePaid) a status o → (drive_at o.drives d).faults < (drive_at o.drives' d).faults → NamesDrive d status
 
 -- `load`: no risen count is served
 abbrev pub CompletesLoad : Type 0
@@ -191,23 +191,23 @@ TellsConfigRule Bytes = (name : List ℕ) (status : Status) (o : Outside) (files
 -- `audit`: a held configuration that is accepted, a held file within the limit that is an audit of it, and no risen count, are
 -- served; where the file is none, the answer names the first line
 abbrev pub CompletesAudit : Type 0
-CompletesAudit = (a : AuditAsked) (status : Status) (o : Outside) (files : List File) (c : Config) (bytes : List ℕ) → FollowsAudit a status (shelf_and_sink o) → o.files ≡ Some files → HasConfig (Some files) a.config c → IsRead (Some files) a.recorded bytes
+CompletesAudit = (a : AuditWords) (status : Status) (o : Outside) (files : List File) (c : Config) (bytes : List ℕ) → FollowsAudit a status (shelf_and_sink o) → o.files ≡ Some files → HasConfig (Some files) a.config c → IsRead (Some files) a.recorded bytes
     → Audited c bytes → NoneRose o → IsServed status
 
 abbrev pub TellsAuditLine : Type 0
-TellsAuditLine = (a : AuditAsked) (status : Status) (o : Outside) (files : List File) (c : Config) (bytes : List ℕ) → FollowsAudit a status (shelf_and_sink o) → o.files ≡ Some files → HasConfig (Some files) a.config c → IsRead (Some files) a.recorded bytes
+TellsAuditLine = (a : AuditWords) (status : Status) (o : Outside) (files : List File) (c : Config) (bytes : List ℕ) → FollowsAudit a status (shelf_and_sink o) → o.files ≡ Some files → HasConfig (Some files) a.config c → IsRead (Some files) a.recorded bytes
     → (Audited c bytes → ⊥) → (Rose o.shelf o.shelf' → ⊥) → TellsFirstBad c bytes status
 
 abbrev pub TellsAuditMissing : Type 0
-TellsAuditMissing = (a : AuditAsked) (status : Status) (o : Outside) (files : List File) (name : List ℕ) → FollowsAudit a status (shelf_and_sink o) → o.files ≡ Some files → IsNextOfAudit (Some files) a name → held files name ≡ None → (Rose o.shelf o.shelf' → ⊥)
+TellsAuditMissing = (a : AuditWords) (status : Status) (o : Outside) (files : List File) (name : List ℕ) → FollowsAudit a status (shelf_and_sink o) → o.files ≡ Some files → IsNextOfAudit (Some files) a name → held files name ≡ None → (Rose o.shelf o.shelf' → ⊥)
     → IsMissing name status
 
 abbrev pub TellsAuditTooLong : Type 0
-TellsAuditTooLong = (a : AuditAsked) (status : Status) (o : Outside) (files : List File) (name : List ℕ) → FollowsAudit a status (shelf_and_sink o) → o.files ≡ Some files → IsNextOfAudit (Some files) a name → IsLong files name → (Rose o.shelf o.shelf' → ⊥)
+TellsAuditTooLong = (a : AuditWords) (status : Status) (o : Outside) (files : List File) (name : List ℕ) → FollowsAudit a status (shelf_and_sink o) → o.files ≡ Some files → IsNextOfAudit (Some files) a name → IsLong files name → (Rose o.shelf o.shelf' → ⊥)
     → IsTooLong name status
 
 abbrev pub TellsAuditRule : Type 0
-TellsAuditRule = (a : AuditAsked) (status : Status) (o : Outside) (files : List File) (f : ConfigFault) → FollowsAudit a status (shelf_and_sink o) → o.files ≡ Some files → IsConfigRefused (Some files) a.config f → (Rose o.shelf o.shelf' → ⊥) → TellsRule f status
+TellsAuditRule = (a : AuditWords) (status : Status) (o : Outside) (files : List File) (f : ConfigFault) → FollowsAudit a status (shelf_and_sink o) → o.files ≡ Some files → IsConfigRefused (Some files) a.config f → (Rose o.shelf o.shelf' → ⊥) → TellsRule f status
 
 -- `asm`, `list` and `dis`: a held file within the limit that stands for bytes, and no risen count, are served; and so on
 abbrev pub CompletesFile : Type 0

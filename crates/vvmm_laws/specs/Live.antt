@@ -20,7 +20,7 @@ use Rattle.sys_state.specs.Run.{Input}
 use Rattle.sys_script.specs.Typed.{events_typed, rounds_ended, rounds_typed}
 use Rattle.vvmm_call.specs.Answer.{FollowsLive, Outside}
 use Rattle.vvmm_files.specs.Files.{HasAllToLive, IsConfigRefused, IsNextToLive}
-use Rattle.vvmm_files.specs.Words.{LiveAsked}
+use Rattle.vvmm_files.specs.Words.{LiveWords}
 use Rattle.vvmm_files.specs.declared.status.Status.{Status}
 use Rattle.vvmm_files.specs.declared.status.Status.TheVariants.{Done, KeyFault, NoMemory}
 use Rattle.vvmm_laws.specs.Complete.{IsImageOf, IsLong, IsMissing, IsSizeOf, IsTooLong, NamesDrive, NamesLine, NoneRose, TellsRule, line_at}
@@ -39,37 +39,37 @@ IsLived p status = ⊥
 
 -- held files that stand for a configuration and images that fit, drives that fit, and no risen count, are served
 abbrev pub CompletesLive : Type 0
-CompletesLive = (a : LiveAsked) (status : Status) (o : Outside) (p : Operator) (files : List File) (c : Config) (images : List (List ℕ)) → (FollowsLive MissesArePaid) a status o p → o.files ≡ Some files → HasAllToLive (Some files) a c images
+CompletesLive = (a : LiveWords) (status : Status) (o : Outside) (p : Operator) (files : List File) (c : Config) (images : List (List ℕ)) → (FollowsLive MissesArePaid) a status o p → o.files ≡ Some files → HasAllToLive (Some files) a c images
     → first_misfit c.guests images ≡ None → All (FitsDrive o.drives) c.volumes → NoneRose o → (Rose p.keys.faults p.keys'.faults → ⊥) → IsLived p status
 
 -- the answer names the first file that the shelf lacks as missing, and the first too long one as too long, where the shelf did
 -- not fail
 abbrev pub TellsLiveMissing : Type 0
-TellsLiveMissing = (a : LiveAsked) (status : Status) (o : Outside) (p : Operator) (files : List File) (name : List ℕ) → (FollowsLive MissesArePaid) a status o p → o.files ≡ Some files → IsNextToLive (Some files) a name → held files name ≡ None → (Rose o.shelf o.shelf' → ⊥) → IsMissing name status
+TellsLiveMissing = (a : LiveWords) (status : Status) (o : Outside) (p : Operator) (files : List File) (name : List ℕ) → (FollowsLive MissesArePaid) a status o p → o.files ≡ Some files → IsNextToLive (Some files) a name → held files name ≡ None → (Rose o.shelf o.shelf' → ⊥) → IsMissing name status
 
 abbrev pub TellsLiveTooLong : Type 0
-TellsLiveTooLong = (a : LiveAsked) (status : Status) (o : Outside) (p : Operator) (files : List File) (name : List ℕ) → (FollowsLive MissesArePaid) a status o p → o.files ≡ Some files → IsNextToLive (Some files) a name → IsLong files name → (Rose o.shelf o.shelf' → ⊥) → IsTooLong name status
+TellsLiveTooLong = (a : LiveWords) (status : Status) (o : Outside) (p : Operator) (files : List File) (name : List ℕ) → (FollowsLive MissesArePaid) a status o p → o.files ≡ Some files → IsNextToLive (Some files) a name → IsLong files name → (Rose o.shelf o.shelf' → ⊥) → IsTooLong name status
 
 -- the answer names the fault of a configuration that is refused
 abbrev pub TellsLiveRule : Type 0
-TellsLiveRule = (a : LiveAsked) (status : Status) (o : Outside) (p : Operator) (files : List File) (f : ConfigFault) → (FollowsLive MissesArePaid) a status o p → o.files ≡ Some files → IsConfigRefused (Some files) a.config f → (Rose o.shelf o.shelf' → ⊥) → TellsRule f status
+TellsLiveRule = (a : LiveWords) (status : Status) (o : Outside) (p : Operator) (files : List File) (f : ConfigFault) → (FollowsLive MissesArePaid) a status o p → o.files ≡ Some files → IsConfigRefused (Some files) a.config f → (Rose o.shelf o.shelf' → ⊥) → TellsRule f status
 
 -- the answer names the first image that doesn't fit, and the first volume whose drive has another number of blocks, where the
 -- images fit and no drive failed
 abbrev pub TellsLiveImage : Type 0
-TellsLiveImage = (a : LiveAsked) (status : Status) (o : Outside) (p : Operator) (files : List File) (c : Config) (images : List (List ℕ)) (g : ℕ) → (FollowsLive MissesArePaid) a status o p → o.files ≡ Some files → HasAllToLive (Some files) a c images
+TellsLiveImage = (a : LiveWords) (status : Status) (o : Outside) (p : Operator) (files : List File) (c : Config) (images : List (List ℕ)) (g : ℕ) → (FollowsLive MissesArePaid) a status o p → o.files ≡ Some files → HasAllToLive (Some files) a c images
     → first_misfit c.guests images ≡ Some g → (Rose o.shelf o.shelf' → ⊥) → IsImageOf g status
 
 abbrev pub TellsLiveSize : Type 0
-TellsLiveSize = (a : LiveAsked) (status : Status) (o : Outside) (p : Operator) (files : List File) (c : Config) (images : List (List ℕ)) (v : ℕ) → (FollowsLive MissesArePaid) a status o p → o.files ≡ Some files → HasAllToLive (Some files) a c images
+TellsLiveSize = (a : LiveWords) (status : Status) (o : Outside) (p : Operator) (files : List File) (c : Config) (images : List (List ℕ)) (v : ℕ) → (FollowsLive MissesArePaid) a status o p → o.files ≡ Some files → HasAllToLive (Some files) a c images
     → first_misfit c.guests images ≡ None → IsMisfit c.volumes o.drives v → NoneRose o → IsSizeOf v status
 
 -- where a line's count is greater, it is named or one of a lower number; where a drive's is, a line or it or a lower drive
 abbrev pub TellsLiveLineFault : Type 0
-TellsLiveLineFault = (a : LiveAsked) (status : Status) (o : Outside) (p : Operator) (k : ℕ) → (FollowsLive MissesArePaid) a status o p → (line_at o.lines k).faults < (line_at o.lines' k).faults → NamesLine k status
+TellsLiveLineFault = (a : LiveWords) (status : Status) (o : Outside) (p : Operator) (k : ℕ) → (FollowsLive MissesArePaid) a status o p → (line_at o.lines k).faults < (line_at o.lines' k).faults → NamesLine k status
 
 abbrev pub TellsLiveDriveFault : Type 0
-TellsLiveDriveFault = (a : LiveAsked) (status : Status) (o : Outside) (p : Operator) (d : ℕ) → (FollowsLive MissesArePaid) a status o p → (drive_at o.drives d).faults < (drive_at o.drives' d).faults → NamesDrive d status
+TellsLiveDriveFault = (a : LiveWords) (status : Status) (o : Outside) (p : Operator) (d : ℕ) → (FollowsLive MissesArePaid) a status o p → (drive_at o.drives d).faults < (drive_at o.drives' d).faults → NamesDrive d status
 
 -- the run of lines that were typed
 abbrev pub input_typed : Config → List (List ℕ) → List (List (List ℕ)) → List (List ℕ) → Input

@@ -2,7 +2,7 @@
 -- the terminal of its level shows above, by SHOW, and not below.
 use Rattle.std.specs.Prelude.{◌≡◌, zero, suc, slice_get, Bool, [], ◌∷◌, codes, false, true, refl, None}
 use Rattle.vv_class.specs.Class.{does_flow, is_subset}
-use Rattle.sys_flow.specs.Reach.{IsGuestAt, IsTerminalAt, Object, leads}
+use Rattle.sys_flow.specs.Reach.{IsGuestAt, IsTerminalAt, ObjectPlace, leads}
 use Rattle.vvmm_laws.specs.Reach.{events_without, is_far_event, line_of_guest}
 use Rattle.sys_objects.specs.declared.records.Config.{Config}
 use Rattle.sys_state.specs.Bytes.{line_bytes}
@@ -45,7 +45,7 @@ pub of_another_all : events_without three (IsGuestAt 0) halted.events ≡ halted
 of_another_all = refl
 
 -- a set that holds LOW alone
-abbrev pub only_low : Object → Bool
+abbrev pub only_low : ObjectPlace → Bool
 only_low (IsTerminalAt zero) = true
 only_low (IsTerminalAt (suc t)) = false
 only_low p = false

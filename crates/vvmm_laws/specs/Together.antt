@@ -13,13 +13,13 @@ use Rattle.sys_state.specs.Bytes.{drive_blocks, line_bytes}
 use Rattle.sys_state.specs.Run.{Input}
 use Rattle.vvmm_call.specs.Answer.{FollowsExtend, FollowsResume, FollowsSave, Outside}
 use Rattle.vvmm_files.specs.Files.{HasAll}
-use Rattle.vvmm_files.specs.Words.{ResumeAsked, RunAsked}
+use Rattle.vvmm_files.specs.Words.{ResumeWords, RunWords}
 use Rattle.vvmm_files.specs.declared.status.Status.TheVariants.{Done}
 use Rattle.vvmm_laws.specs.Complete.{line_at}
 
 -- The second goes on from what the first, of this script, showed: the file that it names is what `out` was shown, and the scripts
 -- are the same bytes.
-pub record AreJoined (script : List ℕ) (b : ResumeAsked) (o p : Outside) : Type 0 where
+pub record AreJoined (script : List ℕ) (b : ResumeWords) (o p : Outside) : Type 0 where
   pub files : List File
   pub files' : List File
   pub first : o.files ≡ Some files
@@ -33,7 +33,7 @@ pub record AreJoined (script : List ℕ) (b : ResumeAsked) (o p : Outside) : Typ
 
 -- one `extend`: what it was asked, and the outside
 pub record Extension : Type 0 where
-  pub asked : ResumeAsked
+  pub asked : ResumeWords
   pub outside : Outside
 
 -- each was done, and goes on from what the one before it showed
@@ -64,7 +64,7 @@ GetsInAll k (o ∷ os) bytes = (own : List ℕ) × (rest : List ℕ) × ((line_a
 
 -- They are the run of the same files over the volumes that the drives held at first, of all rounds: each line gets its bytes, and
 -- each volume's drive ends with its last blocks.
-pub record AreOneRun (a : RunAsked) (b : ResumeAsked) (o : Outside) (xs : List Extension) (p : Outside) : Type 0 where
+pub record AreOneRun (a : RunWords) (b : ResumeWords) (o : Outside) (xs : List Extension) (p : Outside) : Type 0 where
   pub input : Input
   pub has : HasAll o.files a input.config input.events input.images
   pub rounds : input.rounds ≡ a.rounds + rounds_of xs + b.rounds
@@ -73,7 +73,7 @@ pub record AreOneRun (a : RunAsked) (b : ResumeAsked) (o : Outside) (xs : List E
   pub drives : All (λ row. (drive_at p.drives' row.drive).blocks ≡ known_after (drive_at p.drives row.drive).blocks (drive_blocks input row.drive)) input.config.volumes
 
 -- They are `save` of all rounds: each line gets what that shows, and the last showed its snapshot.
-pub record AreOneSave (a : RunAsked) (o : Outside) (xs : List Extension) : Type 0 where
+pub record AreOneSave (a : RunWords) (o : Outside) (xs : List Extension) : Type 0 where
   pub input : Input
   pub has : HasAll o.files a input.config input.events input.images
   pub rounds : input.rounds ≡ a.rounds + rounds_of xs
@@ -82,7 +82,7 @@ pub record AreOneSave (a : RunAsked) (o : Outside) (xs : List Extension) : Type 
   pub shows : (last_outside o xs).out'.shown ≡ shown_after (last_outside o xs).out.shown (snap_bytes has.config.text (last_moment input))
 
 abbrev pub PartsMakeOne : Type 0
-PartsMakeOne = (a : RunAsked) (b : ResumeAsked) (o : Outside) (xs : List Extension) (p : Outside) → (FollowsSave MissesArePaid) a Done o → AreChained a.script o xs → (FollowsResume MissesArePaid) b Done p → AreJoined (last_script a.script xs) b (last_outside o xs) p → AreOneRun a b o xs p
+PartsMakeOne = (a : RunWords) (b : ResumeWords) (o : Outside) (xs : List Extension) (p : Outside) → (FollowsSave MissesArePaid) a Done o → AreChained a.script o xs → (FollowsResume MissesArePaid) b Done p → AreJoined (last_script a.script xs) b (last_outside o xs) p → AreOneRun a b o xs p
 
 abbrev pub SavesMakeOne : Type 0
-SavesMakeOne = (a : RunAsked) (o : Outside) (xs : List Extension) → (FollowsSave MissesArePaid) a Done o → AreChained a.script o xs → AreOneSave a o xs
+SavesMakeOne = (a : RunWords) (o : Outside) (xs : List Extension) → (FollowsSave MissesArePaid) a Done o → AreChained a.script o xs → AreOneSave a o xs

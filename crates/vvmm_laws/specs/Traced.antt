@@ -4,8 +4,8 @@ use Rattle.std.specs.Prelude.{◌≡◌}
 use Rattle.sys_runs.specs.Besides.{MissesArePaid}
 use Rattle.vv_io.specs.Lines.{Seen}
 use Rattle.vvmm_call.specs.Answer.{FollowsSolo, FollowsTrace, Outside}
-use Rattle.vvmm_files.specs.Words.{Asked}
+use Rattle.vvmm_files.specs.Words.{SoloWords}
 use Rattle.vvmm_files.specs.declared.status.Status.{Status}
 
 abbrev pub TraceIsSolo : Type 0
-TraceIsSolo = (a : Asked) (status : Status) (o : Outside) → (FollowsTrace MissesArePaid) a status o → (out : Seen) × (out.faults ≡ o.out'.faults) × (FollowsSolo MissesArePaid) a status (record o { out' = out })
+TraceIsSolo = (a : SoloWords) (status : Status) (o : Outside) → (FollowsTrace MissesArePaid) a status o → (out : Seen) × (out.faults ≡ o.out'.faults) × (FollowsSolo MissesArePaid) a status (record o { out' = out })

@@ -5,7 +5,7 @@ use Rattle.sys_flow.proofs.closing.pass.Goals as goal
 use Rattle.sys_flow.proofs.closing.pass.Goals.{then-has_bit, else-has_bit}
 
 pub loop-row-preserved : goal.loop-row-preserved
-loop-row-preserved c = elim c.if-has_bit.branch [
-  | then-has_bit w ↦ rw w.rows-is (passed_joined c.args.rows.now c.args.k c.loop-row.row-index c.loop-row.rows c.loop-row.invariant (omega arith) _ (ap (λ n. get_or c.args.rows.now n 0) c.from.ensures) (sym c.has_bit.ensures ∙ w.if-has_bit.true))
-  | else-has_bit w ↦ rw (w.rows-is, set-get_or) (passed_left c.args.rows.now c.args.k c.loop-row.row-index c.loop-row.rows c.loop-row.invariant (sym c.has_bit.ensures ∙ w.if-has_bit.false))
+loop-row-preserved c = elim c.if-is_set.branch [
+  | then-is_set w ↦ rw w.rows-is (passed_joined c.args.rows.now c.args.k c.loop-row.row-index c.loop-row.rows c.loop-row.invariant (omega arith) _ (ap (λ n. get_or c.args.rows.now n 0) c.from.ensures) (sym c.has_bit.ensures ∙ w.if-is_set.true))
+  | else-is_set w ↦ rw (w.rows-is, set-get_or) (passed_left c.args.rows.now c.args.k c.loop-row.row-index c.loop-row.rows c.loop-row.invariant (sym c.has_bit.ensures ∙ w.if-is_set.false))
 ]

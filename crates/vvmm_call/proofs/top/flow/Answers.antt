@@ -1,5 +1,5 @@
 use Rattle.std.proofs.Common.{inl, refl}
-use Rattle.vvmm_files.specs.declared.stop.Stop.TheVariants.{NoMemory}
+use Rattle.vvmm_files.specs.declared.stop.CommandFault.TheVariants.{NoMemory}
 use Rattle.vvmm_call.proofs.top.flow.Goals as goal
 
 pub returns : goal.returns

@@ -5,18 +5,18 @@ use Rattle.sys_trace.specs.Trace.{trace_of}
 use Rattle.vvmm_call.proofs.Separate.{solo_drives}
 use Rattle.vvmm_call.proofs.Tracing.{down_solo, few_traced, has_one, lent_one, made_solo, no_volume, one_guest, one_lent}
 use Rattle.vvmm_files.specs.Solo.{solo_guest}
-use Rattle.vvmm_files.specs.Words.{Asked}
+use Rattle.vvmm_files.specs.Words.{SoloWords}
 use Rattle.vvmm_call.proofs.traces.trace.Goals as goal
 
 pub trace-traced-requires-clause-one : goal.trace-traced-requires-clause-one
 trace-traced-requires-clause-one g c =
-    let a : Asked = record { image = c.args.order.image; steps = c.args.order.steps } in
+    let a : SoloWords = record { image = c.args.order.image; steps = c.args.order.steps } in
     let (image, read, shelf, config, events, images) = c.in-Ok.ensures.fetches in
     one_guest a _ config
 
 pub trace-traced-requires-clause-volumes : goal.trace-traced-requires-clause-volumes
 trace-traced-requires-clause-volumes g c =
-    let a : Asked = record { image = c.args.order.image; steps = c.args.order.steps } in
+    let a : SoloWords = record { image = c.args.order.image; steps = c.args.order.steps } in
     let (image, read, shelf, config, events, images) = c.in-Ok.ensures.fetches in
     no_volume a _ config
 
@@ -27,14 +27,14 @@ trace-traced-requires-clause-images g c =
 
 pub close_trace-requires : goal.close_trace-requires
 close_trace-requires g c =
-    let a : Asked = record { image = c.args.order.image; steps = c.args.order.steps } in
+    let a : SoloWords = record { image = c.args.order.image; steps = c.args.order.steps } in
     let (image, read, shelf, config, events, images) = c.in-Ok.ensures.fetches in
     let traces = c.in-Ok-traced.ensures.traces (solo_guest a) image (has_one a _ config) (lent_one _ _ image c.as_slice.ensures.value images) in
     few_traced _ image _ _ traces.makes
 
 pub returns-in-Ok-traced : goal.returns-in-Ok-traced
 returns-in-Ok-traced g c =
-    let a : Asked = record { image = c.args.order.image; steps = c.args.order.steps } in
+    let a : SoloWords = record { image = c.args.order.image; steps = c.args.order.steps } in
     let (image, read, shelf, config, events, images) = c.in-Ok.ensures.fetches in
     let traces = c.in-Ok-traced.ensures.traces (solo_guest a) image (has_one a _ config) (lent_one _ _ image c.as_slice.ensures.value images) in
     let runs = made_solo a _ image _ _ config traces.makes in
@@ -50,7 +50,7 @@ returns-in-Ok-traced g c =
 
 pub returns : goal.returns
 returns g c =
-    let a : Asked = record { image = c.args.order.image; steps = c.args.order.steps } in
+    let a : SoloWords = record { image = c.args.order.image; steps = c.args.order.steps } in
     let (image, read, shelf, config, events, images) = c.in-Ok.ensures.fetches in
     let (down, same) = c.in-Err-traced.ensures.traces (solo_guest a) image (has_one a _ config) (lent_one _ _ image c.as_slice.ensures.value images) in
     let runs = down_solo a _ image c.in-Err-traced.fault _ config down in

@@ -6,13 +6,13 @@ use Rattle.sys_objects.specs.declared.records.GuestRow.{GuestRow}
 use Rattle.vv_io.specs.Shelf.{File}
 use Rattle.vvmm_files.proofs.Stopping.{as_many_images, images_stop_save, script_stops_save}
 use Rattle.vvmm_files.specs.Files.{AreImages, FitsSnap, HasConfig, HasScript, IsTooLarge}
-use Rattle.vvmm_files.specs.Words.{RunAsked}
+use Rattle.vvmm_files.specs.Words.{RunWords}
 use Rattle.vvmm_files.proofs.fetching.fetch_to_save.Goals as goal
 
 pub returns-in_err-events-clause-fetches : goal.returns-in_err-events-clause-fetches
 returns-in_err-events-clause-fetches g c =
     let p = err_from_is_err_and c.from_residual-in_err-events.result c.from_residual-in_err-events.ensures.1 in
-    let a : RunAsked = record { config = c.args.order.now.config; script = c.args.order.now.script; rounds = c.args.order.now.rounds } in
+    let a : RunWords = record { config = c.args.order.now.config; script = c.args.order.now.script; rounds = c.args.order.now.rounds } in
     let has : HasConfig (g.S.Shelf.files c.args.shelf.now) c.args.order.now.config c.in_ok-read.read.config = record { text = c.in_ok-read.read.text.items; read = c.in_ok-read.ensures.fetches.0; means = c.in_ok-read.ensures.fetches.1 } in
     rw (p.1, p.2) (script_stops_save (g.S.Shelf.files c.args.shelf.now) (g.S.Shelf.files c.fetch_text.new.shelf) a (g.S.Shelf.faults c.args.shelf.now) (g.S.Shelf.faults c.fetch_text.new.shelf) (g.S.Shelf.faults c.fetch_script.new.shelf) c.in_ok-read.read.config has
     c.fetch_text.ensures.files c.in_ok-read.ensures.fetches.2 _ c.in_err-events.ensures.fetches)
@@ -33,7 +33,7 @@ returns-then-not-fits_snap-clause-fetches g c =
 pub returns-in_err-images-clause-fetches : goal.returns-in_err-images-clause-fetches
 returns-in_err-images-clause-fetches g c =
     let p = err_from_is_err_and c.from_residual-in_err-images.result c.from_residual-in_err-images.ensures.1 in
-    let a : RunAsked = record { config = c.args.order.now.config; script = c.args.order.now.script; rounds = c.args.order.now.rounds } in
+    let a : RunWords = record { config = c.args.order.now.config; script = c.args.order.now.script; rounds = c.args.order.now.rounds } in
     let has : HasConfig (g.S.Shelf.files c.args.shelf.now) c.args.order.now.config c.in_ok-read.read.config = record { text = c.in_ok-read.read.text.items; read = c.in_ok-read.ensures.fetches.0; means = c.in_ok-read.ensures.fetches.1 } in
     let has_script = subst (λ (files : Option (List File)). HasScript files c.args.order.now.script c.in_ok-events.events.items) c.fetch_text.ensures.files c.in_ok-events.ensures.fetches.0 in
     let fits = subst (λ (bytes : List ℕ). FitsSnap bytes c.in_ok-read.read.config) c.as_slice.ensures.value (MatchBool-at_true _ _ c.if-not-fits_snap.false c.fits_snap.ensures) in
