@@ -6,7 +6,7 @@ ghost use Rattle.sys_server.specs.Replies.{reply_of};
 ghost use Rattle.sys_server.specs.Verdict.{judged, on_dismount, on_mount, on_row, on_rows, unless_empty, verdict_of, visible_guest_place, visible_volume_place};
 
 use crate::line::asked_in;
-use crate::{NamedCommand, Command, Rule, ServerState, Verdict};
+use crate::{Command, NamedCommand, Rule, ServerState, Verdict};
 use sys_objects::{Config, GuestRow, Mount, VolumeRow, same_class};
 use vv_base::Name;
 use vv_class::{AccessClass, flows};

@@ -6,7 +6,7 @@ mod granting;
 mod judging;
 mod line;
 
-pub use command::{NamedCommand, Command, Rule, ServerState, Verdict};
+pub use command::{Command, NamedCommand, Rule, ServerState, Verdict};
 pub use granting::apply;
 pub use judging::{reply, verdict};
 pub use line::{asked_in, lines_law};

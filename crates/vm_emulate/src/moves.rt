@@ -19,7 +19,7 @@ use vm_console::Port;
 use vm_ipr::mtpr;
 use vm_kcall::{Accept, accept};
 use vm_shadow::Shadow;
-use vm_state::{RegisterEffect, Exc, GuestState, ReservedOperand};
+use vm_state::{Exc, GuestState, RegisterEffect, ReservedOperand};
 use vv_base::Width;
 
 /// Sets the codes of a longword that was moved.

@@ -4,7 +4,7 @@ ghost use Rattle.vm_state.specs.State.{HasPlace, state_of};
 ghost use Rattle.vm_ipr.specs.Outcomes.{WritesRegister};
 
 use vax_arch::Psl;
-use vm_state::{RegisterEffect, GuestState, Register, ReservedOperand, set_pointer};
+use vm_state::{GuestState, Register, RegisterEffect, ReservedOperand, set_pointer};
 
 /// Whether a register may be written, and allows the value.
 fn allows(register: Register, v: u32) -> bool

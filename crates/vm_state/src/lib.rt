@@ -17,7 +17,7 @@ pub use laws::{
     steps_are_counted, steps_keep_allowed_registers, steps_show_few, stopped_guests_stay,
     walks_find_one_entry,
 };
-pub use register::{RegisterEffect, Register, ReservedOperand};
+pub use register::{Register, RegisterEffect, ReservedOperand};
 pub use stacks::{pointer, set_pointer, stack_in};
 pub use stops::{StopCode, StopReason};
 pub use transfer::Accept;

@@ -4,7 +4,7 @@ ghost use Rattle.vm_stepping.specs.Made.{steps_in};
 ghost use Rattle.vvmm_call.specs.Answer.{AnswersLive, FollowsLive, live_status};
 
 use crate::report::summary;
-use crate::stop::{power_status, fault_status};
+use crate::stop::{fault_status, power_status};
 use std::alloc::Global;
 use sys_devices::{Device, put_once};
 use sys_live::{Lived, Typing};

@@ -3,7 +3,7 @@ ghost use Rattle.sys_runs.specs.Besides.{MissesArePaid};
 ghost use Rattle.vvmm_call.specs.Answer.{AnswersSave, FollowsExtend, FollowsResume, FollowsSave};
 
 use crate::playing::{answer, done_status};
-use crate::stop::{power_status, fault_status};
+use crate::stop::{fault_status, power_status};
 use std::alloc::Global;
 use sys_runs::Saved;
 use sys_system::PowerFault;

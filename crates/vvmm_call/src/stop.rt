@@ -2,7 +2,7 @@ ghost use Rattle.std.specs.Prelude.{◌≡◌};
 ghost use Rattle.vvmm_call.specs.Answer.{power_status, fault_status};
 
 use sys_system::PowerFault;
-use vvmm_files::{Status, CommandFault};
+use vvmm_files::{CommandFault, Status};
 
 /// The answer of a command that stops.
 pub fn fault_status(stop: CommandFault) -> Status

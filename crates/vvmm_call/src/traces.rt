@@ -9,7 +9,7 @@ ghost use Rattle.vvmm_call.specs.Summary.{summary};
 
 use crate::playing::{close, done_status};
 use crate::report::summary;
-use crate::stop::{power_status, fault_status};
+use crate::stop::{fault_status, power_status};
 use std::alloc::Global;
 use sys_trace::Traced;
 use vax_hw::Hardware;

@@ -20,7 +20,11 @@ use vv_base::{FileName, get_u32};
 use vv_io::{Shelf, ShelfFault};
 
 /// The bytes of a file.
-pub fn fetch_file<S: Shelf>(alloc: Global, shelf: &mut S, name: &FileName) -> Result<Vec<u8>, CommandFault>
+pub fn fetch_file<S: Shelf>(
+    alloc: Global,
+    shelf: &mut S,
+    name: &FileName,
+) -> Result<Vec<u8>, CommandFault>
     ensures fetches { FetchesFile (S.files shelf.old) name.now (S.faults shelf.old) (S.faults shelf.new) result }
     ensures files { S.files shelf.new ≡ S.files shelf.old }
 {
@@ -55,7 +59,11 @@ fn fetch_text<S: Shelf>(alloc: Global, shelf: &mut S, name: &FileName) -> Result
 }
 
 /// The configuration of a file.
-pub fn fetch_config<S: Shelf>(alloc: Global, shelf: &mut S, name: &FileName) -> Result<Config, CommandFault>
+pub fn fetch_config<S: Shelf>(
+    alloc: Global,
+    shelf: &mut S,
+    name: &FileName,
+) -> Result<Config, CommandFault>
     ensures fetches { FetchesConfig (S.files shelf.old) name.now (S.faults shelf.old) (S.faults shelf.new) result }
     ensures files { S.files shelf.new ≡ S.files shelf.old }
     ensures accepted { IfOk result (λ c. IsConfig c) }
@@ -65,7 +73,11 @@ pub fn fetch_config<S: Shelf>(alloc: Global, shelf: &mut S, name: &FileName) -> 
 }
 
 /// The events of a file.
-fn fetch_script<S: Shelf>(alloc: Global, shelf: &mut S, name: &FileName) -> Result<Vec<Event>, CommandFault>
+fn fetch_script<S: Shelf>(
+    alloc: Global,
+    shelf: &mut S,
+    name: &FileName,
+) -> Result<Vec<Event>, CommandFault>
     ensures fetches { FetchesScript (S.files shelf.old) name.now (S.faults shelf.old) (S.faults shelf.new) result }
     ensures files { S.files shelf.new ≡ S.files shelf.old }
     ensures ordered { IfOk result (λ es. AreEvents es.items) }
@@ -105,7 +117,11 @@ pub struct Inputs {
 
 /// Fetches the configuration, the script, and the images in the order of the guests. What is fetched first is read first, and the
 /// first that fails is answered.
-pub fn fetch_run<S: Shelf>(alloc: Global, shelf: &mut S, order: &RunOrder) -> Result<Inputs, CommandFault>
+pub fn fetch_run<S: Shelf>(
+    alloc: Global,
+    shelf: &mut S,
+    order: &RunOrder,
+) -> Result<Inputs, CommandFault>
     ensures fetches { FetchesRun (S.files shelf.old) (record { config = order.now.config; script = order.now.script; rounds = order.now.rounds }) (S.faults shelf.old) (S.faults shelf.new) result }
     ensures accepted { IfOk result (λ x. IsConfig x.config) }
     ensures ordered { IfOk result (λ x. AreEvents x.events.items) }
@@ -225,7 +241,11 @@ pub struct ReadSnap {
 }
 
 /// The snapshot of a file, and its text.
-fn fetch_snap<S: Shelf>(alloc: Global, shelf: &mut S, name: &FileName) -> Result<ReadSnap, CommandFault>
+fn fetch_snap<S: Shelf>(
+    alloc: Global,
+    shelf: &mut S,
+    name: &FileName,
+) -> Result<ReadSnap, CommandFault>
     ensures fetches { FetchesSnap (S.files shelf.old) name.now (S.faults shelf.old) (S.faults shelf.new) result }
     ensures files { S.files shelf.new ≡ S.files shelf.old }
     ensures held { IfOk result (λ x. HoldsMoment x.snap) }

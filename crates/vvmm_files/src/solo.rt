@@ -74,7 +74,11 @@ fn solo_config(alloc: Global, order: Order) -> Result<Config, NoMemory>
 }
 
 /// What the run of one guest is made of.
-pub fn solo_inputs<S: Shelf>(alloc: Global, order: Order, shelf: &mut S) -> Result<Inputs, CommandFault>
+pub fn solo_inputs<S: Shelf>(
+    alloc: Global,
+    order: Order,
+    shelf: &mut S,
+) -> Result<Inputs, CommandFault>
     ensures fetches { FetchesSolo (S.files shelf.old) (record { image = order.image; steps = order.steps }) (S.faults shelf.old) (S.faults shelf.new) result }
     ensures files { S.files shelf.new ≡ S.files shelf.old }
 {
