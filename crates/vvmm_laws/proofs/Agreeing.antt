@@ -4,7 +4,7 @@ use Rattle.std.specs.Prelude.{if◌then◌else◌}
 use Rattle.vax_arch.specs.declared.mode.Intent.{Intent}
 use Rattle.vax_arch.specs.declared.mode.Intent.TheVariants as intents
 use Rattle.vax_table.specs.Claims.{AreAmong, addresses, claims, if_write}
-use Rattle.vax_table.specs.Interaction.{Cause, Done, Interaction, IsIn, Refuse, Space, Touch, Trouble, after_valid_byte, asked, bind_result, number_at, on_ok, outcome, reached, with_byte}
+use Rattle.vax_table.specs.Interaction.{Cause, Done, Interaction, IsIn, Refuse, Space, Touch, Trouble, by_result, asked, number_at, outcome, reached, with_byte}
 use Rattle.vax_table.specs.Tries.{first_clear, tried, tried_by, unless_clear}
 use Rattle.vax_table.proofs.Claims.{among_back, among_front}
 
@@ -15,7 +15,7 @@ AnswersThere s t xs = (i : Intent) (a : ℕ) → IsIn a xs → t i a ≡ s i a
 fewer : (s t : Space) (xs ys : List ℕ) → AreAmong xs ys → AnswersThere s t ys → AnswersThere s t xs
 fewer s t xs ys among h i a g = h i a (among a g)
 
-byte_same : (P : List ℕ → Type 0) (i : Intent) (a : ℕ) (x : Result ℕ Cause) (r q : Result ℕ Trouble) (rest : List ℕ) → P (after_valid_byte x rest) → (P rest → q ≡ r) → with_byte i a x q ≡ with_byte i a x r
+byte_same : (P : List ℕ → Type 0) (i : Intent) (a : ℕ) (x : Result ℕ Cause) (r q : Result ℕ Trouble) (rest : List ℕ) → P (by_result x (λ b. rest) (λ c. [])) → (P rest → q ≡ r) → with_byte i a x q ≡ with_byte i a x r
 byte_same P i a (Err c) r q rest h next = refl
 byte_same P i a (Ok b) r q rest h next = ap (with_byte i a (Ok b)) (next h)
 
@@ -25,7 +25,7 @@ number_same s t i (suc k) a h =
     ap (λ (x : Result ℕ Cause). with_byte i (a % 2 ^ 32) x (number_at t i k (a + 1))) (h i (a % 2 ^ 32) (inl refl))
     ∙ byte_same (AnswersThere s t) i (a % 2 ^ 32) (s i (a % 2 ^ 32)) (number_at s i k (a + 1)) (number_at t i k (a + 1)) (asked s i k (a + 1)) (λ j x g. h j x (inr g)) (number_same s t i k (a + 1))
 
-touch_same : {A : Type 0} (P : List ℕ → Type 0) (f g : ℕ → Result A Trouble) (more : ℕ → List ℕ) (r : Result ℕ Trouble) → P (on_ok r more) → ((v : ℕ) → P (more v) → g v ≡ f v) → bind_result r g ≡ bind_result r f
+touch_same : {A : Type 0} (P : List ℕ → Type 0) (f g : ℕ → Result A Trouble) (more : ℕ → List ℕ) (r : Result ℕ Trouble) → P (by_result r more (λ t. [])) → ((v : ℕ) → P (more v) → g v ≡ f v) → by_result r g Err ≡ by_result r f Err
 touch_same P f g more (Ok v) h next = next v h
 touch_same P f g more (Err t) h next = refl
 
@@ -33,11 +33,11 @@ pub outcome_same : {A : Type 0} (s t : Space) (m : Interaction A) → AnswersThe
 outcome_same s t (Done a) h = refl
 outcome_same s t (Refuse r) h = refl
 outcome_same s t (Touch i a k f) h =
-    let later = on_ok (number_at s i k a) (λ v. reached s (f v)) in
-    ap (λ r. bind_result r (λ v. outcome t (f v))) (number_same s t i k a (fewer s t (asked s i k a) (asked s i k a ++ later) (among_front (asked s i k a) later) h))
+    let later = by_result (number_at s i k a) (λ v. reached s (f v)) (λ t. []) in
+    ap (λ r. by_result r (λ v. outcome t (f v)) Err) (number_same s t i k a (fewer s t (asked s i k a) (asked s i k a ++ later) (among_front (asked s i k a) later) h))
     ∙ touch_same (AnswersThere s t) (λ v. outcome s (f v)) (λ v. outcome t (f v)) (λ v. reached s (f v)) (number_at s i k a) (fewer s t later (asked s i k a ++ later) (among_back (asked s i k a) later) h) (λ v g. outcome_same s t (f v) g)
 
-after_same : (P : List ℕ → Type 0) (f g more : ℕ → List ℕ) (r : Result ℕ Trouble) → P (on_ok r more) → ((v : ℕ) → P (more v) → g v ≡ f v) → on_ok r g ≡ on_ok r f
+after_same : (P : List ℕ → Type 0) (f g more : ℕ → List ℕ) (r : Result ℕ Trouble) → P (by_result r more (λ t. [])) → ((v : ℕ) → P (more v) → g v ≡ f v) → by_result r g (λ t. []) ≡ by_result r f (λ t. [])
 after_same P f g more (Ok v) h next = next v h
 after_same P f g more (Err t) h next = refl
 
@@ -45,19 +45,19 @@ claims_same : {A : Type 0} (s t : Space) (m : Interaction A) → AnswersThere s 
 claims_same s t (Done a) h = refl
 claims_same s t (Refuse r) h = refl
 claims_same s t (Touch i a k f) h =
-    let later = on_ok (number_at s i k a) (λ v. reached s (f v)) in
+    let later = by_result (number_at s i k a) (λ v. reached s (f v)) (λ t. []) in
     ap (λ xs. if_write i (addresses k a) ++ xs)
-    (ap (λ r. on_ok r (λ v. claims t (f v))) (number_same s t i k a (fewer s t (asked s i k a) (asked s i k a ++ later) (among_front (asked s i k a) later) h))
+    (ap (λ r. by_result r (λ v. claims t (f v)) (λ t. [])) (number_same s t i k a (fewer s t (asked s i k a) (asked s i k a ++ later) (among_front (asked s i k a) later) h))
     ∙ after_same (AnswersThere s t) (λ v. claims s (f v)) (λ v. claims t (f v)) (λ v. reached s (f v)) (number_at s i k a) (fewer s t later (asked s i k a ++ later) (among_back (asked s i k a) later) h) (λ v g. claims_same s t (f v) g))
 
-byte_asked : (P : List ℕ → Type 0) (x : Result ℕ Cause) (rest more : List ℕ) → P (after_valid_byte x rest) → (P rest → more ≡ rest) → after_valid_byte x more ≡ after_valid_byte x rest
+byte_asked : (P : List ℕ → Type 0) (x : Result ℕ Cause) (rest more : List ℕ) → P (by_result x (λ b. rest) (λ c. [])) → (P rest → more ≡ rest) → by_result x (λ b. more) (λ c. []) ≡ by_result x (λ b. rest) (λ c. [])
 byte_asked P (Err c) rest more h next = refl
 byte_asked P (Ok b) rest more h next = next h
 
 asked_same : (s t : Space) (i : Intent) (k a : ℕ) → AnswersThere s t (asked s i k a) → asked t i k a ≡ asked s i k a
 asked_same s t i zero a h = refl
 asked_same s t i (suc k) a h =
-    ap (λ x. a % 2 ^ 32 ∷ after_valid_byte x (asked t i k (a + 1))) (h i (a % 2 ^ 32) (inl refl))
+    ap (λ x. a % 2 ^ 32 ∷ by_result x (λ b. (asked t i k (a + 1))) (λ c. [])) (h i (a % 2 ^ 32) (inl refl))
     ∙ ap (λ xs. a % 2 ^ 32 ∷ xs) (byte_asked (AnswersThere s t) (s i (a % 2 ^ 32)) (asked s i k (a + 1)) (asked t i k (a + 1)) (λ j x g. h j x (inr g)) (asked_same s t i k (a + 1)))
 
 -- the same addresses are asked for
@@ -66,10 +66,10 @@ reached_same s t (Done a) h = refl
 reached_same s t (Refuse r) h = refl
 reached_same s t (Touch i a k f) h =
     let here = asked s i k a in
-    let later = on_ok (number_at s i k a) (λ v. reached s (f v)) in
+    let later = by_result (number_at s i k a) (λ v. reached s (f v)) (λ t. []) in
     let at_front = fewer s t here (here ++ later) (among_front here later) h in
-    ap (λ xs. xs ++ on_ok (number_at t i k a) (λ v. reached t (f v))) (asked_same s t i k a at_front)
-    ∙ ap (λ r. here ++ on_ok r (λ v. reached t (f v))) (number_same s t i k a at_front)
+    ap (λ xs. xs ++ by_result (number_at t i k a) (λ v. reached t (f v)) (λ t. [])) (asked_same s t i k a at_front)
+    ∙ ap (λ r. here ++ by_result r (λ v. reached t (f v)) (λ t. [])) (number_same s t i k a at_front)
     ∙ ap (λ xs. here ++ xs) (after_same (AnswersThere s t) (λ v. reached s (f v)) (λ v. reached t (f v)) (λ v. reached s (f v)) (number_at s i k a) (fewer s t later (here ++ later) (among_back here later) h) (λ v g. reached_same s t (f v) g))
 
 -- What an interaction that completes claims is among what it asks for.
@@ -83,7 +83,7 @@ all_asked : (s : Space) (i : Intent) (k a n : ℕ) → number_at s i k a ≡ Ok 
 all_asked s i zero a n e = refl
 all_asked s i (suc k) a n e =
     let made = made_of i (a % 2 ^ 32) n (s i (a % 2 ^ 32)) (number_at s i k (a + 1)) e in
-    ap (λ x. a % 2 ^ 32 ∷ after_valid_byte x (asked s i k (a + 1))) made.0.1 ∙ ap (λ xs. a % 2 ^ 32 ∷ xs) (all_asked s i k (a + 1) made.1.0 made.1.1)
+    ap (λ x. a % 2 ^ 32 ∷ by_result x (λ b. (asked s i k (a + 1))) (λ c. [])) made.0.1 ∙ ap (λ xs. a % 2 ^ 32 ∷ xs) (all_asked s i k (a + 1) made.1.0 made.1.1)
 
 written_among : (i : Intent) (xs : List ℕ) → AreAmong (if_write i xs) xs
 written_among intents.Read xs x h = absurd h
@@ -97,8 +97,8 @@ in_either x (y ∷ xs) ys (inr h) = elim (in_either x xs ys h) [ inl g ↦ inl (
 both_among : (xs ys zs ws : List ℕ) → AreAmong xs ys → AreAmong zs ws → AreAmong (xs ++ zs) (ys ++ ws)
 both_among xs ys zs ws f g x h = elim (in_either x xs zs h) [ inl k ↦ among_front ys ws x (f x k) | inr k ↦ among_back ys ws x (g x k) ]
 
-touch_among : {A : Type 0} (s : Space) (i : Intent) (k a : ℕ) (f : ℕ → Interaction A) (x : A) (r : Result ℕ Trouble) → number_at s i k a ≡ r → ((v : ℕ) → outcome s (f v) ≡ Ok x → AreAmong (claims s (f v)) (reached s (f v))) → bind_result r (λ v. outcome s (f v)) ≡ Ok x →
-    AreAmong (if_write i (addresses k a) ++ on_ok r (λ v. claims s (f v))) (asked s i k a ++ on_ok r (λ v. reached s (f v)))
+touch_among : {A : Type 0} (s : Space) (i : Intent) (k a : ℕ) (f : ℕ → Interaction A) (x : A) (r : Result ℕ Trouble) → number_at s i k a ≡ r → ((v : ℕ) → outcome s (f v) ≡ Ok x → AreAmong (claims s (f v)) (reached s (f v))) → by_result r (λ v. outcome s (f v)) Err ≡ Ok x →
+    AreAmong (if_write i (addresses k a) ++ by_result r (λ v. claims s (f v)) (λ t. [])) (asked s i k a ++ by_result r (λ v. reached s (f v)) (λ t. []))
 touch_among s i k a f x (Ok n) is next e =
     both_among (if_write i (addresses k a)) (asked s i k a) (claims s (f n)) (reached s (f n))
     (subst (λ (ys : List ℕ). AreAmong (if_write i (addresses k a)) ys) (sym (all_asked s i k a n is)) (written_among i (addresses k a))) (next n e)
@@ -126,7 +126,7 @@ written_answered s intents.Read k a n e va h = absurd h
 written_answered s intents.Write k a n e va h = number_answered s k a n e va h
 
 touch_answered : {A : Type 0} (s : Space) (i : Intent) (k a : ℕ) (f : ℕ → Interaction A) (x : A) (r : Result ℕ Trouble) → number_at s i k a ≡ r → ((v : ℕ) → outcome s (f v) ≡ Ok x → (va : ℕ) → IsIn va (claims s (f v)) → Answered s va) →
-    bind_result r (λ v. outcome s (f v)) ≡ Ok x → (va : ℕ) → IsIn va (if_write i (addresses k a)) ⊎ IsIn va (on_ok r (λ v. claims s (f v))) → Answered s va
+    by_result r (λ v. outcome s (f v)) Err ≡ Ok x → (va : ℕ) → IsIn va (if_write i (addresses k a)) ⊎ IsIn va (by_result r (λ v. claims s (f v)) (λ t. [])) → Answered s va
 touch_answered s i k a f x (Ok n) is next e va (inl h) = written_answered s i k a n is va h
 touch_answered s i k a f x (Ok n) is next e va (inr h) = next n e va h
 touch_answered s i k a f x (Err t) is next e va h = absurd (cc)
@@ -135,7 +135,7 @@ pub claims_answered : {A : Type 0} (s : Space) (m : Interaction A) (x : A) → o
 claims_answered s (Done a) x e va h = absurd h
 claims_answered s (Refuse r) x e va h = absurd h
 claims_answered s (Touch i a k f) x e va h =
-    touch_answered s i k a f x (number_at s i k a) refl (λ v g. claims_answered s (f v) x g) e va (in_either va (if_write i (addresses k a)) (on_ok (number_at s i k a) (λ v. claims s (f v))) h)
+    touch_answered s i k a f x (number_at s i k a) refl (λ v g. claims_answered s (f v) x g) e va (in_either va (if_write i (addresses k a)) (by_result (number_at s i k a) (λ v. claims s (f v)) (λ t. [])) h)
 
 -- Tries.
 
