@@ -1,5 +1,5 @@
 -- BBS and BBC of memory do what their normal form says.
-use Rattle.std.proofs.Common.{◌≡◌, ℕ, ◌+◌, ◌%◌, ◌^◌, ◌<◌, true, List, [], ◌∷◌, length, map, Option, Some, None, Result, Ok, refl, ap, ◌∙◌, sym, subst, arith, slice_index}
+use Rattle.std.proofs.Common.{◌≡◌, ℕ, ◌+◌, ◌%◌, ◌^◌, ◌<◌, true, List, [], ◌∷◌, length, map, Option, Some, None, Result, Ok, Err, refl, ap, ◌∙◌, sym, subst, arith, slice_index}
 use Rattle.std.specs.Prelude.{IfSome}
 use Rattle.vv_base.specs.Width.{size_of}
 use Rattle.vv_base.specs.declared.width.Width.{Width}

@@ -1,5 +1,5 @@
 -- A push after an operand is what a form in memory says.
-use Rattle.std.proofs.Common.{◌≡◌, ◌≢◌, ℕ, ◌%◌, ◌^◌, List, [], ◌∷◌, Option, Some, None, Result, Ok, ap, ◌∙◌, sym, subst, arith, get_or-set_other, slice_index, slice_set}
+use Rattle.std.proofs.Common.{◌≡◌, ◌≢◌, ℕ, ◌%◌, ◌^◌, List, [], ◌∷◌, Option, Some, None, Result, Ok, Err, ap, ◌∙◌, sym, subst, arith, get_or-set_other, slice_index, slice_set}
 use Rattle.vv_base.specs.declared.width.Width.{Width}
 use Rattle.vv_base.specs.declared.width.Width.TheVariants.{Long}
 use Rattle.vv_base.specs.Width.{size_of}

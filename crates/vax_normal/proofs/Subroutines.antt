@@ -1,5 +1,5 @@
 -- BSBB, BSBW and RSB do what their normal forms say.
-use Rattle.std.proofs.Common.{◌≡◌, ◌≢◌, ℕ, ◌+◌, ◌%◌, ◌^◌, ◌<◌, List, [], ◌∷◌, length, map, None, Result, Ok, true, refl, ap, ◌∙◌, sym, arith, get_or-set_same, slice_index, slice_set}
+use Rattle.std.proofs.Common.{◌≡◌, ◌≢◌, ℕ, ◌+◌, ◌%◌, ◌^◌, ◌<◌, List, [], ◌∷◌, length, map, None, Result, Ok, Err, true, refl, ap, ◌∙◌, sym, arith, get_or-set_same, slice_index, slice_set}
 use Rattle.std.proofs.lemmas.List.{set-set}
 use Rattle.vax_arch.specs.declared.mode.Intent.TheVariants.{Read, Write}
 use Rattle.vv_base.specs.declared.width.Width.TheVariants.{Long}

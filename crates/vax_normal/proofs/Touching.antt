@@ -1,5 +1,5 @@
 -- Operands that touch memory give what is had there.
-use Rattle.std.proofs.Common.{◌≡◌, ◌≢◌, ℕ, zero, suc, ◌+◌, ◌-◌, ◌<◌, Bool, true, false, List, [], ◌∷◌, length, drop, take, Option, Some, None, Result, Ok, refl, ap, ◌∙◌, sym, subst, arith, bit_and, get_or, get_or-set_other, slice_index, slice_index_or, slice_set}
+use Rattle.std.proofs.Common.{◌≡◌, ◌≢◌, ℕ, zero, suc, ◌+◌, ◌-◌, ◌<◌, Bool, true, false, List, [], ◌∷◌, length, drop, take, Option, Some, None, Result, Ok, Err, refl, ap, ◌∙◌, sym, subst, arith, bit_and, get_or, get_or-set_other, slice_index, slice_index_or, slice_set}
 use Rattle.std.specs.Prelude.{◌==◌, if◌then◌else◌, IfSome}
 use Rattle.std.proofs.Math.ListN.{length-set}
 use Rattle.vv_base.specs.declared.width.Width.{Width}

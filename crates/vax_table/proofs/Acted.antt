@@ -1,5 +1,5 @@
 -- What an instruction comes to, by the operation that the code has for it, is what the instruction set says.
-use Rattle.std.proofs.Common.{◌≡◌, ℕ, ◌||◌, Bool, true, false, if◌then◌else◌, List, refl, ap, sym, ◌∙◌}
+use Rattle.std.proofs.Common.{◌≡◌, ℕ, ◌||◌, Bool, true, false, if◌then◌else◌, List, Err, refl, ap, sym, ◌∙◌}
 use Rattle.std.specs.Prelude.{slice_index}
 use Rattle.vax_table.specs.Acted.{acted, acted_by, is_always_done, meaning_by}
 use Rattle.vax_table.specs.AllOperands.{operands_of}

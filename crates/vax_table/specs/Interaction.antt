@@ -74,9 +74,9 @@ AsFar s t (Ok x) r = r ≡ Ok x
 AsFar s t (Err (Test k)) r = r ≡ Err (Test k)
 AsFar s t (Err (At c i a)) r = (s i a ≡ Err c) × ((d : Cause) → t i a ≡ Err d → r ≡ Err (At d i a))
 
--- what touches list, up to and with the first that has trouble
-abbrev pub listed : {A : Type 0} → Space → (Intent → (at size : ℕ) → List ℕ) → Interaction A → List ℕ
-listed s bytes m = interpreted s (λ a. []) (λ t. []) (λ i a k rest. bytes i a k ++ rest) m
+-- what touches give, up to and with the first that has trouble
+abbrev pub gathered : {A : Type 0} → Space → (Intent → (at size : ℕ) → List ℕ) → Interaction A → List ℕ
+gathered s bytes m = interpreted s (λ a. []) (λ t. []) (λ i a k rest. bytes i a k ++ rest) m
 
 -- the bytes of a number that are asked for, up to and with the first that has trouble
 abbrev pub asked : Space → Intent → ℕ → ℕ → List ℕ
@@ -85,7 +85,7 @@ asked s i (suc k) a = a % 2 ^ 32 ∷ by_result (s i (a % 2 ^ 32)) (λ b. asked s
 
 -- the bytes that an interaction asks for, up to and with the first that has trouble
 abbrev pub reached : {A : Type 0} → Space → Interaction A → List ℕ
-reached s m = listed s (λ i a k. asked s i k a) m
+reached s m = gathered s (λ i a k. asked s i k a) m
 
 abbrev pub IsIn : ℕ → List ℕ → Type 0
 IsIn x [] = ⊥
