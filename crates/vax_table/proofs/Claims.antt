@@ -1,19 +1,9 @@
 -- Laws of what interactions claim.
-use Rattle.std.proofs.Common.{◌≡◌, ℕ, inl, inr, List, [], ◌∷◌, ◌++◌, Result, Ok, Err, refl, ap, ◌∙◌, sym, subst, append_assoc, append-nil}
+use Rattle.std.proofs.Common.{◌≡◌, ℕ, List, [], ◌++◌, Result, Ok, Err, refl, ap, ◌∙◌, sym, subst, append_assoc, append-nil}
 use Rattle.vax_arch.specs.declared.mode.Intent.{Intent}
-use Rattle.vax_table.specs.Claims.{addresses, if_write, claims, Holds, AreAmong}
+use Rattle.vax_table.specs.Claims.{addresses, if_write, claims, Holds}
 use Rattle.vax_table.specs.Interaction.{Trouble, Space, number_at, Interaction, Done, Refuse, Touch, ◌>>=◌, by_result, outcome, Below, AsFar}
-use Rattle.vax_table.proofs.Scripts.{outcome_far}
-
--- a number is the outcome of its own touch
-alone : (r : Result ℕ Trouble) → by_result r (λ v. Ok v) Err ≡ r
-alone (Ok v) = refl
-alone (Err t) = refl
-
-number_far : (s t : Space) → Below s t → (i : Intent) (k a : ℕ) → AsFar s t (number_at s i k a) (number_at t i k a)
-number_far s t below i k a =
-    subst (λ (q : Result ℕ Trouble). AsFar s t (number_at s i k a) q) (alone (number_at t i k a))
-    (subst (λ (r : Result ℕ Trouble). AsFar s t r (by_result (number_at t i k a) (λ v. Ok v) Err)) (alone (number_at s i k a)) (outcome_far s t below (Touch i a k (λ v. Done v))))
+use Rattle.vax_table.proofs.Scripts.{number_far}
 
 claims_same_on : {A : Type 0} (s t : Space) (f : ℕ → Interaction A) (x : A) (r q : Result ℕ Trouble) → AsFar s t r q → ((v : ℕ) → outcome s (f v) ≡ Ok x → claims t (f v) ≡ claims s (f v)) → by_result r (λ v. outcome s (f v)) Err ≡ Ok x → by_result q (λ v. claims t (f v)) (λ t. []) ≡ by_result r (λ v. claims s (f v)) (λ t. [])
 claims_same_on s t f x (Ok v) q far next e = ap (λ z. by_result z (λ v. claims t (f v)) (λ t. [])) far ∙ next v e
@@ -52,12 +42,3 @@ pub holds_always : {A : Type 0} (P : List ℕ → A → Type 0) (cs : List ℕ) 
 holds_always P cs (Done a) h = h cs a
 holds_always P cs (Refuse t) h = tt
 holds_always P cs (Touch i a n f) h = λ v. holds_always P (cs ++ if_write i (addresses n a)) (f v) h
-
-pub among_front : (xs ys : List ℕ) → AreAmong xs (xs ++ ys)
-among_front [] ys x h = absurd h
-among_front (z ∷ xs) ys x (inl e) = inl e
-among_front (z ∷ xs) ys x (inr h) = inr (among_front xs ys x h)
-
-pub among_back : (xs ys : List ℕ) → AreAmong ys (xs ++ ys)
-among_back [] ys x h = h
-among_back (z ∷ xs) ys x h = inr (among_back xs ys x h)

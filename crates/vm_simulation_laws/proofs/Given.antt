@@ -5,9 +5,9 @@ use Rattle.std.proofs.Math.Seq.{drop-append_seam, take-append_seam}
 use Rattle.vax_arch.specs.Walk.{page_of}
 use Rattle.vax_arch.specs.declared.mode.Intent.{Intent}
 use Rattle.vax_table.specs.Interaction.{AsFar, At, Below, Cause, Done, Interaction, IsIn, Refuse, Space, Test, Touch, Trouble, by_result, asked, number_at, outcome, reached, with_byte}
-use Rattle.vax_table.proofs.Claims.{among_back, among_front}
-use Rattle.vax_table.proofs.Scripts.{outcome_far}
-use Rattle.vm_simulation_laws.proofs.Narrow.{AreAlike, in_either, outcome_alike}
+use Rattle.vax_table.proofs.Among.{among_back, among_front, in_either}
+use Rattle.vax_table.proofs.Scripts.{number_far}
+use Rattle.vm_simulation_laws.proofs.Narrow.{AreAlike, low, number_alike}
 use Rattle.vm_state.specs.Step.{pages_touched}
 
 abbrev pub if_given : ℕ → Result ℕ Cause → List ℕ → List ℕ
@@ -66,22 +66,6 @@ pages_of_bytes xs (Err (At c i va)) =
 
 pub touched_is : {A : Type 0} (s : Space) (m : Interaction A) → pages_touched (reached s m) (outcome s m) ≡ record { found = map page_of (given s m); lacking = map page_of (lacked (outcome s m)) }
 touched_is s m = ap (λ xs. pages_touched xs (outcome s m)) (reached_is s m) ∙ pages_of_bytes (given s m) (outcome s m)
-
--- a number is the outcome of its own touch
-alone : (r : Result ℕ Trouble) → by_result r (λ v. Ok v) Err ≡ r
-alone (Ok v) = refl
-alone (Err t) = refl
-
-number_far : (s t : Space) → Below s t → (i : Intent) (k a : ℕ) → AsFar s t (number_at s i k a) (number_at t i k a)
-number_far s t below i k a =
-    subst (λ (q : Result ℕ Trouble). AsFar s t (number_at s i k a) q) (alone (number_at t i k a))
-    (subst (λ (r : Result ℕ Trouble). AsFar s t r (by_result (number_at t i k a) (λ v. Ok v) Err)) (alone (number_at s i k a)) (outcome_far s t below (Touch i a k (λ v. Done v))))
-
-number_alike : (s t : Space) → AreAlike s t → (i : Intent) (k a : ℕ) → number_at s i k a ≡ number_at t i k a
-number_alike s t alike i k a = sym (alone (number_at s i k a)) ∙ outcome_alike s t alike (Touch i a k (λ v. Done v)) ∙ alone (number_at t i k a)
-
-pub low : (a : ℕ) → a % 2 ^ 32 < 2 ^ 32
-low a = omega arith
 
 bytes_alike : (s t : Space) → AreAlike s t → (i : Intent) (k a : ℕ) → bytes_given s i k a ≡ bytes_given t i k a
 bytes_alike s t alike i zero a = refl
