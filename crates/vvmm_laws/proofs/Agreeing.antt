@@ -38,7 +38,7 @@ interpreted_same s t done stops touched (Touch i a k f) h =
     let here = asked s i k a in
     let later = by_result (number_at s i k a) (λ v. reached s (f v)) (λ u. []) in
     let next = touch_same (AnswersThere s t) stops (λ v. interpreted s done stops touched (f v)) (λ v. interpreted t done stops touched (f v)) (λ v. reached s (f v)) (number_at s i k a)
-        (fewer s t later (here ++ later) (among_back here later) h) (λ v g. interpreted_same s t done stops touched (f v) g) in
+    (fewer s t later (here ++ later) (among_back here later) h) (λ v g. interpreted_same s t done stops touched (f v) g) in
     ap (touched i a k) (ap (λ r. by_result r (λ v. interpreted t done stops touched (f v)) stops) (number_same s t i k a (fewer s t here (here ++ later) (among_front here later) h)) ∙ next)
 
 pub outcome_same : {A : Type 0} (s t : Space) (m : Interaction A) → AnswersThere s t (reached s m) → outcome t m ≡ outcome s m
