@@ -4,7 +4,7 @@ use Rattle.std.proofs.lemmas.List.{length-append}
 use Rattle.std.proofs.Math.Seq.{drop-append_seam, take-append_seam}
 use Rattle.vax_arch.specs.Walk.{page_of}
 use Rattle.vax_arch.specs.declared.mode.Intent.{Intent}
-use Rattle.vax_table.specs.Interaction.{AsFar, At, Below, Cause, Done, Interaction, IsIn, Refuse, Space, Test, Touch, Trouble, by_result, asked, number_at, outcome, reached, with_byte}
+use Rattle.vax_table.specs.Interaction.{AsFar, At, Below, Cause, Done, Interaction, IsIn, Refuse, Space, Test, Touch, Trouble, asked, by_result, gathered, number_at, outcome, reached, with_byte}
 use Rattle.vax_table.proofs.Among.{among_back, among_front, in_either}
 use Rattle.vax_table.proofs.Scripts.{number_far}
 use Rattle.vm_simulation_laws.proofs.Narrow.{AreAlike, low, number_alike}
@@ -21,9 +21,7 @@ bytes_given s i (suc k) a = if_given (a % 2 ^ 32) (s i (a % 2 ^ 32)) (bytes_give
 
 -- the bytes of an interaction, up to the first that has trouble
 abbrev pub given : {A : Type 0} → Space → Interaction A → List ℕ
-given s (Done a) = []
-given s (Refuse r) = []
-given s (Touch i a k f) = bytes_given s i k a ++ by_result (number_at s i k a) (λ v. given s (f v)) (λ t. [])
+given s m = gathered s (λ i a k. bytes_given s i k a) m
 
 -- the byte that has it
 abbrev pub lacking_at : Trouble → List ℕ
