@@ -13,7 +13,7 @@ use Rattle.vax_table.specs.declared.act.Refusal.{Refusal}
 use Rattle.vax_table.specs.declared.act.Refusal.TheVariants as refusals
 use Rattle.vax_table.specs.Fetch.{by_decoding, decided}
 use Rattle.vax_table.specs.Reading.{Decoding, Whole, Short, Unknown, Reserved, decoded_at}
-use Rattle.vax_table.specs.Interaction.{Interaction, Space, Done, Refuse, Trouble, outcome, bind_result, number_at, with_byte}
+use Rattle.vax_table.specs.Interaction.{Interaction, Space, Done, Refuse, Trouble, outcome, by_result, number_at, with_byte}
 use Rattle.vax_table.specs.Spelling.{Instruction, view}
 use Rattle.vax_table.specs.declared.decoded.Decoded.{Decoded}
 
@@ -59,16 +59,16 @@ wrapped : (s : Space) (place at : ℕ) → place ≡ at % 2 ^ 32 → number_at s
 wrapped s place at e = let same : place % 2 ^ 32 ≡ at % 2 ^ 32 = ap (λ x. x % 2 ^ 32) e ∙ wraps at in ap (λ x. with_byte Read x (s Read x) (Ok 0)) same
 
 -- where more bytes are needed, one is fetched
-short : (s : Space) (n at place : ℕ) (bytes told : List ℕ) → told ≡ bytes → decoded_at told ≡ Short → place ≡ (at + length bytes) % 2 ^ 32 → outcome s (decided (suc n) at bytes) ≡ bind_result (number_at s Read 1 place) (λ b. outcome s (decided n at (bytes ++ b ∷ [])))
+short : (s : Space) (n at place : ℕ) (bytes told : List ℕ) → told ≡ bytes → decoded_at told ≡ Short → place ≡ (at + length bytes) % 2 ^ 32 → outcome s (decided (suc n) at bytes) ≡ by_result (number_at s Read 1 place) (λ b. outcome s (decided n at (bytes ++ b ∷ []))) Err
 unfolding decided
 short s n at place bytes told same h e =
-    ap (λ x. outcome s (by_decoding (decided n at) at bytes x)) (ap decoded_at (sym same) ∙ h) ∙ ap (λ x. bind_result x (λ b. outcome s (decided n at (bytes ++ b ∷ [])))) (sym (wrapped s place (at + length bytes) e))
+    ap (λ x. outcome s (by_decoding (decided n at) at bytes x)) (ap decoded_at (sym same) ∙ h) ∙ ap (λ x. by_result x (λ b. outcome s (decided n at (bytes ++ b ∷ []))) Err) (sym (wrapped s place (at + length bytes) e))
 
-goes_on : (b : ℕ) (x : Result ℕ Trouble) (f : ℕ → Result Instruction Trouble) → Ok b ≡ exits x → bind_result x f ≡ f b
+goes_on : (b : ℕ) (x : Result ℕ Trouble) (f : ℕ → Result Instruction Trouble) → Ok b ≡ exits x → by_result x f Err ≡ f b
 goes_on b (Ok c) f h = let same : c ≡ b = cc in ap f same
 goes_on b (Err t) f h = cc
 
-stops : (e : Exit) (x : Result ℕ Trouble) (f : ℕ → Result Instruction Trouble) → Err e ≡ exits x → Err e ≡ exits (bind_result x f)
+stops : (e : Exit) (x : Result ℕ Trouble) (f : ℕ → Result Instruction Trouble) → Err e ≡ exits x → Err e ≡ exits (by_result x f Err)
 stops e (Ok c) f h = cc
 stops e (Err t) f h = let same : e ≡ exit_of t = cc in let stop : Exit → Result Instruction Exit = λ x. Err x in ap stop same
 

@@ -1,5 +1,5 @@
 -- Kept bytes that are at an address spell the instruction there.
-use Rattle.std.proofs.Common.{◌≡◌, ◌⊎◌, inl, inr, ℕ, zero, suc, ◌+◌, ◌%◌, ◌^◌, ◌*◌, ◌<◌, ◌≤◌, arith, List, [], ◌∷◌, ◌++◌, length, take, drop, Result, Ok, refl, ap, sym, ◌∙◌, subst, append_assoc, append-nil, length-append}
+use Rattle.std.proofs.Common.{◌≡◌, ◌⊎◌, inl, inr, ℕ, zero, suc, ◌+◌, ◌%◌, ◌^◌, ◌*◌, ◌<◌, ◌≤◌, arith, List, [], ◌∷◌, ◌++◌, length, take, drop, Result, Ok, Err, refl, ap, sym, ◌∙◌, subst, append_assoc, append-nil, length-append}
 use Rattle.std.specs.Prelude.{slice_index}
 use Rattle.std.proofs.Math.Seq.{take-append_seam}
 use Rattle.std.proofs.lemmas.List.{get_or-drop, get_or-take, length-take}
@@ -9,7 +9,7 @@ use Rattle.vax_hw.specs.RealTables.{byte_by}
 use Rattle.vax_hw.specs.declared.world.World.{World}
 use Rattle.vax_table.specs.Fetch.{by_decoding, decided, fetched}
 use Rattle.vax_table.specs.Reading.{Decoding, Whole, Short, Unknown, Reserved, IsAnswerFor, decoded_at}
-use Rattle.vax_table.specs.Interaction.{Cause, Space, Trouble, bind_result, number_at, outcome, with_byte}
+use Rattle.vax_table.specs.Interaction.{Cause, Space, Trouble, by_result, number_at, outcome, with_byte}
 use Rattle.vax_table.specs.Spelling.{AreBytes, Instruction, IsWellFormed, Spells}
 use Rattle.vax_table.specs.Spelling as spells
 use Rattle.vax_table.proofs.Bytes.{AreBytes-from_index}
@@ -53,7 +53,7 @@ goes_on s at (suc n) (b ∷ rest) done d few a are p h =
     let here : at + (length done + 0) ≡ at + length done = omega arith in
     let more : List ℕ → Result Instruction Trouble = λ xs. outcome s (decided n at xs) in
     ap (λ (x : Decoding). outcome s (by_decoding (decided n at) at done x)) (wants done (b ∷ rest) d a (omega arith) p)
-    ∙ ap (λ (r : Result ℕ Trouble). bind_result r (λ c. more (done ++ c ∷ [])))
+    ∙ ap (λ (r : Result ℕ Trouble). by_result r (λ c. more (done ++ c ∷ [])) Err)
     (one_read s (at + length done) b (subst (λ (k : ℕ). s Read (k % 2 ^ 32) ≡ Ok b) here (h 0 (omega arith))))
     ∙ goes_on s at n rest (done ++ b ∷ []) d (omega arith) (one_more done b a are.0) are.1
     (subst (λ (xs : List ℕ). Spells xs d) (sym (append_assoc done (b ∷ []) rest)) p)

@@ -1,5 +1,5 @@
 -- BBS and BBC of memory do what their normal form says.
-use Rattle.std.proofs.Common.{◌≡◌, ℕ, ◌+◌, ◌%◌, ◌^◌, ◌<◌, true, List, [], ◌∷◌, length, map, Option, Some, None, Result, Ok, refl, ap, ◌∙◌, sym, subst, arith, slice_index}
+use Rattle.std.proofs.Common.{◌≡◌, ℕ, ◌+◌, ◌%◌, ◌^◌, ◌<◌, true, List, [], ◌∷◌, length, map, Option, Some, None, Result, Ok, Err, refl, ap, ◌∙◌, sym, subst, arith, slice_index}
 use Rattle.std.specs.Prelude.{IfSome}
 use Rattle.vv_base.specs.Width.{size_of}
 use Rattle.vv_base.specs.declared.width.Width.{Width}
@@ -8,7 +8,7 @@ use Rattle.vv_base.specs.Bits.{is_set}
 use Rattle.vax_table.specs.Branches.{bit_in, branched_on_bit, byte_of_bit, comes_out}
 use Rattle.vax_table.specs.Claims.{Holds}
 use Rattle.vax_table.specs.Effects.{Effect, dest_of, long_of, went_if}
-use Rattle.vax_table.specs.Interaction.{Done, Interaction, Space, Trouble, bind_result, number_at, outcome, ◌>>=◌}
+use Rattle.vax_table.specs.Interaction.{Done, Interaction, Space, Trouble, by_result, number_at, outcome, ◌>>=◌}
 use Rattle.vax_table.specs.Operand.{evaluated, indexed_by, place, plus}
 use Rattle.vax_table.specs.AllOperands.{forms_in, no_operands, operand_of, operands_of, past_own_bytes, with_operand}
 use Rattle.vax_table.specs.Operations.{operation_of}
@@ -49,11 +49,11 @@ unfolding performed branched_on_bit
 tested s n r b to psw byte o room there base position leads by gone read =
     let p : ℕ = number_by n.position r in
     let after : (p byte : ℕ) → Effect = λ p byte. went_if (comes_out n.on (is_set byte (p % 8))) (long_of o 2) (quietly o.r psw) in
-    let found : (at p : ℕ) → Result Effect Trouble = λ at p. bind_result (number_at s Read 1 at) (λ v. let y : Result Effect Trouble = Ok (after p v) in y) in
+    let found : (at p : ℕ) → Result Effect Trouble = λ at p. by_result (number_at s Read 1 at) (λ v. let y : Result Effect Trouble = Ok (after p v) in y) Err in
     let first : outcome s (performed (does.BranchOnBit n.on None) o psw) ≡ found (byte_of_bit b (long_of o 0)) (long_of o 0) =
     ap (λ (z : Dest). outcome s (bit_in n.on None z (long_of o 0) (long_of o 2) (quietly o.r psw))) there in
     first ∙ ap (λ (m : ℕ). found (byte_of_bit b m) m) position ∙ ap (λ (m : ℕ). found m p) (same_sum b (number_by n.base r) _ base)
-    ∙ ap (λ (z : Result ℕ Trouble). bind_result z (λ v. let y : Result Effect Trouble = Ok (after p v) in y)) read
+    ∙ ap (λ (z : Result ℕ Trouble). by_result z (λ v. let y : Result Effect Trouble = Ok (after p v) in y) Err) read
     ∙ ap (λ (e : Effect). let y : Result Effect Trouble = Ok e in y) (went_on (comes_out n.on (is_set byte (p % 8))) r o.r to n.length n.jump (long_of o 2) psw room gone leads by)
 
 operands_are : (d : Instruction) (xs : List Operand) (r : List ℕ) (o : Operands) → map (λ x. x.form) xs ≡ forms_in (row_of d.opcode) → map (λ x. x.spec) xs ≡ d.specs → left_from 0 xs (no_operands (after_opcode d r)) ≡ Done o → operands_of d r ≡ Done o

@@ -1,5 +1,5 @@
 -- Operands of which one refers to memory with an index, and what an operation of the arithmetic does after them.
-use Rattle.std.proofs.Common.{◌≡◌, ℕ, ◌+◌, ◌*◌, ◌<◌, true, List, [], ◌∷◌, length, map, Option, Some, None, Result, Ok, refl, ap, ◌∙◌, sym, subst, arith, get_or-set_same, slice_index, slice_set}
+use Rattle.std.proofs.Common.{◌≡◌, ℕ, ◌+◌, ◌*◌, ◌<◌, true, List, [], ◌∷◌, length, map, Option, Some, None, Result, Ok, Err, refl, ap, ◌∙◌, sym, subst, arith, get_or-set_same, slice_index, slice_set}
 use Rattle.std.specs.Prelude.{◌==◌, if◌then◌else◌, IfSome}
 use Rattle.vv_base.specs.declared.width.Width.{Width}
 use Rattle.vv_base.specs.Width.{size_of}
@@ -7,7 +7,7 @@ use Rattle.vax_arch.specs.declared.mode.Intent.{Intent}
 use Rattle.vax_arch.specs.declared.mode.Intent.TheVariants as intents
 use Rattle.vax_table.specs.Arithmetic.{alu_of}
 use Rattle.vax_table.specs.Effects.{Effect, put, store}
-use Rattle.vax_table.specs.Interaction.{Done, Interaction, Space, Touch, Trouble, bind_result, number_at, outcome, ◌>>=◌}
+use Rattle.vax_table.specs.Interaction.{Done, Interaction, Space, Touch, Trouble, by_result, number_at, outcome, ◌>>=◌}
 use Rattle.vax_table.specs.Operand.{evaluated, indexed_by, place, plus}
 use Rattle.vax_table.specs.AllOperands.{forms_in, no_operands, operand_of, operands_of, past_own_bytes, with_operand}
 use Rattle.vax_table.specs.Operations.{operation_of, computed, first_input, second_input, target_of}
@@ -98,7 +98,7 @@ reads_indexed p b x is reach s m q has =
     let parts = reach.1 q in
     let gives : outcome s (operand_by (Read b) w x.spec q) ≡ Ok (evaluated m Nowhere q) =
     ap (λ (z : Interaction Place). outcome s (z >>= λ y. Touch intents.Read y.at (size_of w) (λ n. Done (evaluated n Nowhere y.r)))) parts.0
-    ∙ ap (λ (z : Result ℕ Trouble). bind_result z (λ n. let y : Result Evaluated Trouble = Ok (evaluated n Nowhere q) in y)) (has_here s intents.Read p w q m reach.0 has) in
+    ∙ ap (λ (z : Result ℕ Trouble). by_result z (λ n. let y : Result Evaluated Trouble = Ok (evaluated n Nowhere q) in y) Err) (has_here s intents.Read p w q m reach.0 has) in
     by_kind s x (Read b) m (indexed_address p q) q is gives parts.1
 
 pub modifies_indexed : (p : IndexedReach) (b : Base) (x : Operand) → x.kind ≡ Modify b → IsIndexedReach p b x.form.width x.spec → IsIndexedBy p intents.Write x
@@ -109,7 +109,7 @@ modifies_indexed p b x is reach s m q has =
     let parts = reach.1 q in
     let gives : outcome s (operand_by (Modify b) w x.spec q) ≡ Ok (evaluated m (Memory at) q) =
     ap (λ (z : Interaction Place). outcome s (z >>= λ y. Touch intents.Write y.at (size_of w) (λ n. Done (evaluated n (Memory y.at) y.r)))) parts.0
-    ∙ ap (λ (z : Result ℕ Trouble). bind_result z (λ n. let y : Result Evaluated Trouble = Ok (evaluated n (Memory at) q) in y)) (has_here s intents.Write p w q m reach.0 has) in
+    ∙ ap (λ (z : Result ℕ Trouble). by_result z (λ n. let y : Result Evaluated Trouble = Ok (evaluated n (Memory at) q) in y) Err) (has_here s intents.Write p w q m reach.0 has) in
     by_kind s x (Modify b) m at q is gives parts.1
 
 pub writes_indexed : (p : IndexedReach) (b : Base) (x : Operand) → x.kind ≡ Write b → IsIndexedReach p b x.form.width x.spec → IsIndexedBy p intents.Write x
@@ -120,7 +120,7 @@ writes_indexed p b x is reach s m q has =
     let parts = reach.1 q in
     let gives : outcome s (operand_by (Write b) w x.spec q) ≡ Ok (evaluated 0 (Memory at) q) =
     ap (λ (z : Interaction Place). outcome s (z >>= λ y. Touch intents.Write y.at (size_of w) (λ n. Done (evaluated 0 (Memory y.at) y.r)))) parts.0
-    ∙ ap (λ (z : Result ℕ Trouble). bind_result z (λ n. let y : Result Evaluated Trouble = Ok (evaluated 0 (Memory at) q) in y)) (has_here s intents.Write p w q m reach.0 has) in
+    ∙ ap (λ (z : Result ℕ Trouble). by_result z (λ n. let y : Result Evaluated Trouble = Ok (evaluated 0 (Memory at) q) in y) Err) (has_here s intents.Write p w q m reach.0 has) in
     by_kind s x (Write b) m at q is gives parts.1
 
 -- ---- the operands

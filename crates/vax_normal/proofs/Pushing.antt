@@ -1,5 +1,5 @@
 -- A push after an operand is what a form in memory says.
-use Rattle.std.proofs.Common.{◌≡◌, ◌≢◌, ℕ, ◌%◌, ◌^◌, List, [], ◌∷◌, Option, Some, None, Result, Ok, ap, ◌∙◌, sym, subst, arith, get_or-set_other, slice_index, slice_set}
+use Rattle.std.proofs.Common.{◌≡◌, ◌≢◌, ℕ, ◌%◌, ◌^◌, List, [], ◌∷◌, Option, Some, None, Result, Ok, Err, ap, ◌∙◌, sym, subst, arith, get_or-set_other, slice_index, slice_set}
 use Rattle.vv_base.specs.declared.width.Width.{Width}
 use Rattle.vv_base.specs.declared.width.Width.TheVariants.{Long}
 use Rattle.vv_base.specs.Width.{size_of}
@@ -7,7 +7,7 @@ use Rattle.vax_arch.specs.declared.mode.Intent.TheVariants as intents
 use Rattle.vax_table.specs.Arithmetic.{alu_of}
 use Rattle.vax_table.specs.Computing.{operand_pushed}
 use Rattle.vax_table.specs.Effects.{Effect, long_of, store}
-use Rattle.vax_table.specs.Interaction.{Space, Trouble, bind_result, number_at, outcome}
+use Rattle.vax_table.specs.Interaction.{Space, Trouble, by_result, number_at, outcome}
 use Rattle.vax_table.specs.Operand.{minus, plus}
 use Rattle.vax_table.specs.AllOperands.{past_own_bytes}
 use Rattle.vax_table.specs.Plan.{performed}
@@ -64,8 +64,8 @@ pushed_stored s n p v u r o psw op wide none is there goes long top has gone cla
     ap (λ (m : ℕ). number_at s intents.Write 4 m) (sym (there r)) ∙ ap (λ (w : Width). number_at s intents.Write (size_of w) (reach_address p r)) (sym long) ∙ subst (λ (z : Option Reach). HasClaimed s z r u) is claimed in
     let pushed : ℕ → Effect = λ m. moved_to (slice_set o.r 14 m) m (long_of o 0) (long_of o 0) psw in
     let done : outcome s (performed does.Push o psw) ≡ Ok (pushed sp) =
-    ap (λ (m : ℕ). bind_result (number_at s intents.Write 4 (minus m 4)) (λ b. let y : Result Effect Trouble = Ok (pushed (minus m 4)) in y)) low
-    ∙ ap (λ (z : Result ℕ Trouble). bind_result z (λ b. let y : Result Effect Trouble = Ok (pushed sp) in y)) old in
+    ap (λ (m : ℕ). by_result (number_at s intents.Write 4 (minus m 4)) (λ b. let y : Result Effect Trouble = Ok (pushed (minus m 4)) in y) Err) low
+    ∙ ap (λ (z : Result ℕ Trouble). by_result z (λ b. let y : Result Effect Trouble = Ok (pushed sp) in y) Err) old in
     let registers : past_own_bytes k (reach_stepped p q) ≡ slice_set o.r 14 sp =
     ap (past_own_bytes k) (goes q ∙ ap (λ (m : ℕ). slice_set q 14 (minus m 4)) top) ∙ sym (both_gone q k sp) ∙ ap (λ (z : List ℕ). slice_set z 14 sp) (sym gone) in
     let value : a % 2 ^ 32 ≡ x % 2 ^ 32 = low_twice x a has in

@@ -1,11 +1,11 @@
 -- BSBB, BSBW and RSB do what their normal forms say.
-use Rattle.std.proofs.Common.{◌≡◌, ◌≢◌, ℕ, ◌+◌, ◌%◌, ◌^◌, ◌<◌, List, [], ◌∷◌, length, map, None, Result, Ok, true, refl, ap, ◌∙◌, sym, arith, get_or-set_same, slice_index, slice_set}
+use Rattle.std.proofs.Common.{◌≡◌, ◌≢◌, ℕ, ◌+◌, ◌%◌, ◌^◌, ◌<◌, List, [], ◌∷◌, length, map, None, Result, Ok, Err, true, refl, ap, ◌∙◌, sym, arith, get_or-set_same, slice_index, slice_set}
 use Rattle.std.proofs.lemmas.List.{set-set}
 use Rattle.vax_arch.specs.declared.mode.Intent.TheVariants.{Read, Write}
 use Rattle.vv_base.specs.declared.width.Width.TheVariants.{Long}
 use Rattle.vax_table.specs.Branches.{called_subroutine, left_subroutine}
 use Rattle.vax_table.specs.Effects.{Effect, long_of, store}
-use Rattle.vax_table.specs.Interaction.{Space, Trouble, bind_result, number_at, outcome}
+use Rattle.vax_table.specs.Interaction.{Space, Trouble, by_result, number_at, outcome}
 use Rattle.vax_table.specs.Operand.{minus, plus}
 use Rattle.vax_table.specs.AllOperands.{forms_in, past_own_bytes}
 use Rattle.vax_table.specs.Operations.{operation_of}
@@ -48,8 +48,8 @@ call_done s n r d psw old o room gone to by claimed =
     let next : slice_index o.r 15 ≡ plus (slice_index r 15) n.length = ap (λ (z : List ℕ). slice_index z 15) gone ∙ get_or-set_same r 15 (plus (slice_index r 15) n.length) 0 room in
     let pushed : (at : ℕ) → Effect = λ at. record { r = slice_set (slice_set o.r 14 at) 15 (long_of o 0); psw = psw; writes = store at Long (slice_index o.r 15) ∷ []; trap = None } in
     let there : outcome s (performed does.CallSubroutine o psw) ≡ Ok (pushed sp) =
-    ap (λ (m : ℕ). bind_result (number_at s Write 4 m) (λ b. let y : Result Effect Trouble = Ok (pushed m) in y)) top
-    ∙ ap (λ (z : Result ℕ Trouble). bind_result z (λ b. let y : Result Effect Trouble = Ok (pushed sp) in y)) claimed in
+    ap (λ (m : ℕ). by_result (number_at s Write 4 m) (λ b. let y : Result Effect Trouble = Ok (pushed m) in y) Err) top
+    ∙ ap (λ (z : Result ℕ Trouble). by_result z (λ b. let y : Result Effect Trouble = Ok (pushed sp) in y) Err) claimed in
     let registers : slice_set (slice_set o.r 14 sp) 15 (long_of o 0) ≡ call_finished n r =
     sym (set_apart o.r 15 14 (long_of o 0) sp apart) ∙ ap (λ (z : List ℕ). slice_set z 14 sp) (gone_to r o.r d n.length n.jump (long_of o 0) room gone to by) in
     there ∙ ap (λ (z : List ℕ). let e : Effect = record { r = z; psw = psw; writes = store sp Long (slice_index o.r 15) ∷ []; trap = None } in let y : Result Effect Trouble = Ok e in y) registers
@@ -76,8 +76,8 @@ return_done s r k psw pc o gone read =
     let sp : ℕ = slice_index r 14 in
     let popped : (at to : ℕ) → Effect = λ at to. quietly (slice_set (slice_set o.r 14 (plus at 4)) 15 to) psw in
     let there : outcome s (performed does.LeaveSubroutine o psw) ≡ Ok (popped sp pc) =
-    ap (λ (m : ℕ). bind_result (number_at s Read 4 m) (λ b. let y : Result Effect Trouble = Ok (popped m b) in y)) (same_top r o.r k gone)
-    ∙ ap (λ (z : Result ℕ Trouble). bind_result z (λ b. let y : Result Effect Trouble = Ok (popped sp b) in y)) read in
+    ap (λ (m : ℕ). by_result (number_at s Read 4 m) (λ b. let y : Result Effect Trouble = Ok (popped m b) in y) Err) (same_top r o.r k gone)
+    ∙ ap (λ (z : Result ℕ Trouble). by_result z (λ b. let y : Result Effect Trouble = Ok (popped sp b) in y) Err) read in
     let v : ℕ = plus (slice_index r 15) k in
     let registers : slice_set (slice_set o.r 14 (plus sp 4)) 15 pc ≡ return_finished pc r =
     ap (λ (z : List ℕ). slice_set (slice_set z 14 (plus sp 4)) 15 pc) gone ∙ ap (λ (z : List ℕ). slice_set z 15 pc) (set_apart r 15 14 v (plus sp 4) apart) ∙ set-set (slice_set r 14 (plus sp 4)) 15 v pc in

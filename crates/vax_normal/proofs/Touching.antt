@@ -1,5 +1,5 @@
 -- Operands that touch memory give what is had there.
-use Rattle.std.proofs.Common.{◌≡◌, ◌≢◌, ℕ, zero, suc, ◌+◌, ◌-◌, ◌<◌, Bool, true, false, List, [], ◌∷◌, length, drop, take, Option, Some, None, Result, Ok, refl, ap, ◌∙◌, sym, subst, arith, bit_and, get_or, get_or-set_other, slice_index, slice_index_or, slice_set}
+use Rattle.std.proofs.Common.{◌≡◌, ◌≢◌, ℕ, zero, suc, ◌+◌, ◌-◌, ◌<◌, Bool, true, false, List, [], ◌∷◌, length, drop, take, Option, Some, None, Result, Ok, Err, refl, ap, ◌∙◌, sym, subst, arith, bit_and, get_or, get_or-set_other, slice_index, slice_index_or, slice_set}
 use Rattle.std.specs.Prelude.{◌==◌, if◌then◌else◌, IfSome}
 use Rattle.std.proofs.Math.ListN.{length-set}
 use Rattle.vv_base.specs.declared.width.Width.{Width}
@@ -10,7 +10,7 @@ use Rattle.vax_table.specs.declared.decoded.Spec.{Spec}
 use Rattle.vax_table.specs.declared.evaluation.Evaluated.{Evaluated}
 use Rattle.vax_table.specs.declared.evaluation.Operands.{Operands}
 use Rattle.vax_table.specs.declared.evaluation.Place.{Place}
-use Rattle.vax_table.specs.Interaction.{Done, Interaction, Space, Touch, Trouble, bind_result, number_at, outcome, ◌>>=◌}
+use Rattle.vax_table.specs.Interaction.{Done, Interaction, Space, Touch, Trouble, by_result, number_at, outcome, ◌>>=◌}
 use Rattle.vax_table.specs.Operand.{evaluated, plus}
 use Rattle.vax_table.specs.AllOperands.{no_operands, operand_of, past_own_bytes, with_operand}
 use Rattle.vax_table.proofs.Scripts.{outcome-bind}
@@ -32,7 +32,7 @@ use Rattle.vax_normal.proofs.Doing.{set_apart}
 use Rattle.vax_normal.proofs.Taking.{moved_on, operand_taken, pc_alone, set_at, taken_operand}
 
 pub found_on : {A B : Type 0} (s : Space) (m : Interaction A) (f : A → Interaction B) (x : A) (y : B) → outcome s m ≡ Ok x → outcome s (f x) ≡ Ok y → outcome s (m >>= f) ≡ Ok y
-found_on s m f x y first next = outcome-bind s m f ∙ ap (λ (z : Result _ Trouble). bind_result z (λ v. outcome s (f v))) first ∙ next
+found_on s m f x y first next = outcome-bind s m f ∙ ap (λ (z : Result _ Trouble). by_result z (λ v. outcome s (f v)) Err) first ∙ next
 
 pub touched_none : AreTouched (record { reads = None; writes = None }) []
 touched_none s i v u at r o moved a b c = (refl, moved)
@@ -97,7 +97,7 @@ unfolding operand_by
 by_read s p b w sp q v reach had =
     let parts = reach.1 q in
     ap (λ (m : Interaction Place). outcome s (m >>= λ z. Touch intents.Read z.at (size_of w) (λ n. Done (evaluated n Nowhere z.r)))) parts.0
-    ∙ ap (λ (z : Result ℕ Trouble). bind_result z (λ n. Ok (evaluated n Nowhere (reach_stepped p q)))) had ∙ ap (λ (xs : List ℕ). Ok (evaluated v Nowhere xs)) (sym parts.1)
+    ∙ ap (λ (z : Result ℕ Trouble). by_result z (λ n. Ok (evaluated n Nowhere (reach_stepped p q))) Err) had ∙ ap (λ (xs : List ℕ). Ok (evaluated v Nowhere xs)) (sym parts.1)
 
 by_modify : (s : Space) (p : Reach) (b : Base) (w : Width) (sp : Spec) (q : List ℕ) (u : ℕ) → IsReachOf p b w sp → number_at s intents.Write (size_of w) (reach_address p q) ≡ Ok u →
     outcome s (operand_by (Modify b) w sp q) ≡ Ok (evaluated u (Memory (reach_address p q)) (base_left b (size_of w) sp.reg q))
@@ -105,7 +105,7 @@ unfolding operand_by
 by_modify s p b w sp q u reach had =
     let parts = reach.1 q in
     ap (λ (m : Interaction Place). outcome s (m >>= λ z. Touch intents.Write z.at (size_of w) (λ n. Done (evaluated n (Memory z.at) z.r)))) parts.0
-    ∙ ap (λ (z : Result ℕ Trouble). bind_result z (λ n. Ok (evaluated n (Memory (reach_address p q)) (reach_stepped p q)))) had ∙ ap (λ (xs : List ℕ). Ok (evaluated u (Memory (reach_address p q)) xs)) (sym parts.1)
+    ∙ ap (λ (z : Result ℕ Trouble). by_result z (λ n. Ok (evaluated n (Memory (reach_address p q)) (reach_stepped p q))) Err) had ∙ ap (λ (xs : List ℕ). Ok (evaluated u (Memory (reach_address p q)) xs)) (sym parts.1)
 
 by_write : (s : Space) (p : Reach) (b : Base) (w : Width) (sp : Spec) (q : List ℕ) (u : ℕ) → IsReachOf p b w sp → number_at s intents.Write (size_of w) (reach_address p q) ≡ Ok u →
     outcome s (operand_by (Write b) w sp q) ≡ Ok (evaluated 0 (Memory (reach_address p q)) (base_left b (size_of w) sp.reg q))
@@ -113,7 +113,7 @@ unfolding operand_by
 by_write s p b w sp q u reach had =
     let parts = reach.1 q in
     ap (λ (m : Interaction Place). outcome s (m >>= λ z. Touch intents.Write z.at (size_of w) (λ n. Done (evaluated 0 (Memory z.at) z.r)))) parts.0
-    ∙ ap (λ (z : Result ℕ Trouble). bind_result z (λ n. Ok (evaluated 0 (Memory (reach_address p q)) (reach_stepped p q)))) had ∙ ap (λ (xs : List ℕ). Ok (evaluated 0 (Memory (reach_address p q)) xs)) (sym parts.1)
+    ∙ ap (λ (z : Result ℕ Trouble). by_result z (λ n. Ok (evaluated 0 (Memory (reach_address p q)) (reach_stepped p q))) Err) had ∙ ap (λ (xs : List ℕ). Ok (evaluated 0 (Memory (reach_address p q)) xs)) (sym parts.1)
 
 -- an operand by its kind, with what is had of it
 kind_gives : (s : Space) (x : Operand) (k : Kind) (v u at : ℕ) (r : List ℕ) → x.kind ≡ k →

@@ -1,12 +1,12 @@
 -- What an instruction comes to, by the operation that the code has for it, is what the instruction set says.
-use Rattle.std.proofs.Common.{◌≡◌, ℕ, ◌||◌, Bool, true, false, if◌then◌else◌, List, refl, ap, sym, ◌∙◌}
+use Rattle.std.proofs.Common.{◌≡◌, ℕ, ◌||◌, Bool, true, false, if◌then◌else◌, List, Err, refl, ap, sym, ◌∙◌}
 use Rattle.std.specs.Prelude.{slice_index}
 use Rattle.vax_table.specs.Acted.{acted, acted_by, is_always_done, meaning_by}
 use Rattle.vax_table.specs.AllOperands.{operands_of}
 use Rattle.vax_table.specs.Effects.{Effect}
 use Rattle.vax_table.specs.Fetch.{fetched}
 use Rattle.vax_table.specs.InstructionSet.{Meaning, Sensitive, Privileged, opcode_meaning}
-use Rattle.vax_table.specs.Interaction.{Done, Refuse, ◌>>=◌, Space, bind_result, outcome}
+use Rattle.vax_table.specs.Interaction.{Done, Refuse, ◌>>=◌, Space, by_result, outcome}
 use Rattle.vax_table.specs.Operations.{operation_of}
 use Rattle.vax_table.specs.Plan.{performed_with, plan_of}
 use Rattle.vax_table.specs.Spelling.{Instruction}
@@ -40,5 +40,5 @@ pub instruction_is : (kernel : Bool) (psl : ℕ) (r : List ℕ) → instruction 
 unfolding instruction
 instruction_is kernel psl r = same_after (fetched (slice_index r 15)) _ _ (λ d. acted_is kernel psl d r)
 
-pub instruction_binds : (s : Space) (kernel : Bool) (psl : ℕ) (r : List ℕ) → outcome s (instruction kernel psl r) ≡ bind_result (outcome s (fetched (slice_index r 15))) (λ d. outcome s (acted kernel psl d r))
+pub instruction_binds : (s : Space) (kernel : Bool) (psl : ℕ) (r : List ℕ) → outcome s (instruction kernel psl r) ≡ by_result (outcome s (fetched (slice_index r 15))) (λ d. outcome s (acted kernel psl d r)) Err
 instruction_binds s kernel psl r = ap (outcome s) (instruction_is kernel psl r) ∙ outcome-bind s (fetched (slice_index r 15)) (λ d. acted kernel psl d r)

@@ -1,22 +1,12 @@
 -- Laws of what interactions claim.
-use Rattle.std.proofs.Common.{◌≡◌, ℕ, inl, inr, List, [], ◌∷◌, ◌++◌, Result, Ok, Err, refl, ap, ◌∙◌, sym, subst, append_assoc, append-nil}
+use Rattle.std.proofs.Common.{◌≡◌, ℕ, List, [], ◌++◌, Result, Ok, Err, refl, ap, ◌∙◌, sym, subst, append_assoc, append-nil}
 use Rattle.vax_arch.specs.declared.mode.Intent.{Intent}
-use Rattle.vax_table.specs.Claims.{addresses, if_write, claims, Holds, AreAmong}
-use Rattle.vax_table.specs.Interaction.{Trouble, Space, number_at, Interaction, Done, Refuse, Touch, ◌>>=◌, bind_result, outcome, on_ok, Below, AsFar}
-use Rattle.vax_table.proofs.Scripts.{outcome_far}
+use Rattle.vax_table.specs.Claims.{addresses, if_write, claims, Holds}
+use Rattle.vax_table.specs.Interaction.{Trouble, Space, number_at, Interaction, Done, Refuse, Touch, ◌>>=◌, by_result, outcome, Below, AsFar}
+use Rattle.vax_table.proofs.Scripts.{number_far}
 
--- a number is the outcome of its own touch
-alone : (r : Result ℕ Trouble) → bind_result r (λ v. Ok v) ≡ r
-alone (Ok v) = refl
-alone (Err t) = refl
-
-number_far : (s t : Space) → Below s t → (i : Intent) (k a : ℕ) → AsFar s t (number_at s i k a) (number_at t i k a)
-number_far s t below i k a =
-    subst (λ (q : Result ℕ Trouble). AsFar s t (number_at s i k a) q) (alone (number_at t i k a))
-    (subst (λ (r : Result ℕ Trouble). AsFar s t r (bind_result (number_at t i k a) (λ v. Ok v))) (alone (number_at s i k a)) (outcome_far s t below (Touch i a k (λ v. Done v))))
-
-claims_same_on : {A : Type 0} (s t : Space) (f : ℕ → Interaction A) (x : A) (r q : Result ℕ Trouble) → AsFar s t r q → ((v : ℕ) → outcome s (f v) ≡ Ok x → claims t (f v) ≡ claims s (f v)) → bind_result r (λ v. outcome s (f v)) ≡ Ok x → on_ok q (λ v. claims t (f v)) ≡ on_ok r (λ v. claims s (f v))
-claims_same_on s t f x (Ok v) q far next e = ap (λ z. on_ok z (λ v. claims t (f v))) far ∙ next v e
+claims_same_on : {A : Type 0} (s t : Space) (f : ℕ → Interaction A) (x : A) (r q : Result ℕ Trouble) → AsFar s t r q → ((v : ℕ) → outcome s (f v) ≡ Ok x → claims t (f v) ≡ claims s (f v)) → by_result r (λ v. outcome s (f v)) Err ≡ Ok x → by_result q (λ v. claims t (f v)) (λ t. []) ≡ by_result r (λ v. claims s (f v)) (λ t. [])
+claims_same_on s t f x (Ok v) q far next e = ap (λ z. by_result z (λ v. claims t (f v)) (λ t. [])) far ∙ next v e
 claims_same_on s t f x (Err u) q far next e = cc
 
 -- where an interaction completes over the lower space, it claims the same over the upper one
@@ -25,7 +15,7 @@ claims_same s t below (Done a) x e = refl
 claims_same s t below (Refuse k) x e = refl
 claims_same s t below (Touch i a k f) x e = ap (λ z. if_write i (addresses k a) ++ z) (claims_same_on s t f x _ _ (number_far s t below i k a) (λ v g. claims_same s t below (f v) x g) e)
 
-holds_on : {A : Type 0} (P : List ℕ → A → Type 0) (s : Space) (cs ds : List ℕ) (f : ℕ → Interaction A) (x : A) (r : Result ℕ Trouble) → ((v : ℕ) → outcome s (f v) ≡ Ok x → P ((cs ++ ds) ++ claims s (f v)) x) → bind_result r (λ v. outcome s (f v)) ≡ Ok x → P (cs ++ (ds ++ on_ok r (λ v. claims s (f v)))) x
+holds_on : {A : Type 0} (P : List ℕ → A → Type 0) (s : Space) (cs ds : List ℕ) (f : ℕ → Interaction A) (x : A) (r : Result ℕ Trouble) → ((v : ℕ) → outcome s (f v) ≡ Ok x → P ((cs ++ ds) ++ claims s (f v)) x) → by_result r (λ v. outcome s (f v)) Err ≡ Ok x → P (cs ++ (ds ++ by_result r (λ v. claims s (f v)) (λ t. []))) x
 holds_on P s cs ds f x (Ok v) h e = subst (λ z. P z x) (append_assoc cs ds (claims s (f v))) (h v e)
 holds_on P s cs ds f x (Err t) h e = cc
 
@@ -52,12 +42,3 @@ pub holds_always : {A : Type 0} (P : List ℕ → A → Type 0) (cs : List ℕ) 
 holds_always P cs (Done a) h = h cs a
 holds_always P cs (Refuse t) h = tt
 holds_always P cs (Touch i a n f) h = λ v. holds_always P (cs ++ if_write i (addresses n a)) (f v) h
-
-pub among_front : (xs ys : List ℕ) → AreAmong xs (xs ++ ys)
-among_front [] ys x h = absurd h
-among_front (z ∷ xs) ys x (inl e) = inl e
-among_front (z ∷ xs) ys x (inr h) = inr (among_front xs ys x h)
-
-pub among_back : (xs ys : List ℕ) → AreAmong ys (xs ++ ys)
-among_back [] ys x h = h
-among_back (z ∷ xs) ys x h = inr (among_back xs ys x h)

@@ -6,9 +6,11 @@ pub mod Operands
 pub mod Lengths
 pub mod Instructions
 pub mod OneSpelling
+pub mod Among
 pub mod Scripts
 pub mod Standings
 pub mod Claims
+pub mod Answered
 pub mod OperandClaims
 pub mod NextPc
 pub mod Numbers

@@ -22,7 +22,8 @@ use Rattle.vax_table.specs.declared.evaluation.Operands.{Operands}
 use Rattle.vax_table.specs.declared.meaning.Operation.{Operation}
 use Rattle.vax_table.specs.declared.meaning.Operation.TheVariants as does
 use Rattle.vax_table.proofs.Acted.{instruction_is}
-use Rattle.vax_table.proofs.Claims.{among_back, among_front, holds-bind, holds_always, holds_made}
+use Rattle.vax_table.proofs.Among.{among_back, among_front}
+use Rattle.vax_table.proofs.Claims.{holds-bind, holds_always, holds_made}
 use Rattle.vax_table.proofs.Plans.{Sound, plans_sound}
 use Rattle.vax_table.proofs.OperandClaims.{AreClaimed, are_few, operands_claimed}
 use Rattle.vax_table.proofs.Targets.{gets_none, is_fit, none_claimed, operations_fit}

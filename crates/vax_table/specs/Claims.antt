@@ -9,7 +9,7 @@ use Rattle.vax_table.specs.declared.act.Dest.TheVariants.{Nowhere, Register, Mem
 use Rattle.vax_table.specs.declared.forms.Access.{Access}
 use Rattle.vax_table.specs.declared.forms.Access.TheVariants.{Read, Modify, Write, Address, Bits, Branch}
 use Rattle.vax_table.specs.declared.forms.Form.{Form}
-use Rattle.vax_table.specs.Interaction.{Space, number_at, Interaction, Done, Refuse, Touch, on_ok, IsIn}
+use Rattle.vax_table.specs.Interaction.{Space, Interaction, Done, Refuse, Touch, gathered, IsIn}
 
 -- the addresses of k bytes
 abbrev pub addresses : ℕ → ℕ → List ℕ
@@ -22,9 +22,7 @@ if_write intents.Write xs = xs
 
 -- the bytes that are claimed for writing, in access order
 abbrev pub claims : {A : Type 0} → Space → Interaction A → List ℕ
-claims s (Done a) = []
-claims s (Refuse t) = []
-claims s (Touch i a k f) = if_write i (addresses k a) ++ on_ok (number_at s i k a) (λ v. claims s (f v))
+claims s m = gathered s (λ i a k. if_write i (addresses k a)) m
 
 -- a relation between what was claimed so far and the result, at each end that an interaction can reach
 abbrev pub Holds : {A : Type 0} → (List ℕ → A → Type 0) → List ℕ → Interaction A → Type 0

@@ -47,16 +47,21 @@ abbrev pub ◌>>=◌ : {A B : Type 0} → Interaction A → (A → Interaction B
 (Refuse t) >>= g = Refuse t
 (Touch i a k f) >>= g = Touch i a k (λ v. f v >>= g)
 
--- what comes first has its trouble first
-abbrev pub bind_result : {A B : Type 0} → Result A Trouble → (A → Result B Trouble) → Result B Trouble
-bind_result (Ok a) g = g a
-bind_result (Err t) g = Err t
+-- what follows a result: of its value, or of its error
+abbrev pub by_result : {A E B : Type 0} → Result A E → (A → B) → (E → B) → B
+by_result (Ok a) follows stops = follows a
+by_result (Err e) follows stops = stops e
 
--- the outcome over a space
+-- An interaction over a space: what it comes to where it is done, where it has its first trouble, and what a touch makes
+-- of what follows it.
+abbrev pub interpreted : {A B : Type 0} → Space → (A → B) → (Trouble → B) → (Intent → (at size : ℕ) → B → B) → Interaction A → B
+interpreted s done stops touched (Done a) = done a
+interpreted s done stops touched (Refuse t) = stops (Test t)
+interpreted s done stops touched (Touch i a k f) = touched i a k (by_result (number_at s i k a) (λ v. interpreted s done stops touched (f v)) stops)
+
+-- the outcome: the first trouble counts
 abbrev pub outcome : {A : Type 0} → Space → Interaction A → Result A Trouble
-outcome s (Done a) = Ok a
-outcome s (Refuse t) = Err (Test t)
-outcome s (Touch i a k f) = bind_result (number_at s i k a) (λ v. outcome s (f v))
+outcome s m = interpreted s Ok Err (λ i a k rest. rest) m
 
 -- Wherever the first space answers, the second answers alike.
 abbrev pub Below : Space → Space → Type 0
@@ -69,25 +74,18 @@ AsFar s t (Ok x) r = r ≡ Ok x
 AsFar s t (Err (Test k)) r = r ≡ Err (Test k)
 AsFar s t (Err (At c i a)) r = (s i a ≡ Err c) × ((d : Cause) → t i a ≡ Err d → r ≡ Err (At d i a))
 
--- what follows a result: nothing after a trouble
-abbrev pub on_ok : {B : Type 0} → Result ℕ Trouble → (ℕ → List B) → List B
-on_ok (Ok v) f = f v
-on_ok (Err t) f = []
-
-abbrev pub after_valid_byte : Result ℕ Cause → List ℕ → List ℕ
-after_valid_byte (Ok b) xs = xs
-after_valid_byte (Err c) xs = []
+-- what touches give, up to and with the first that has trouble
+abbrev pub gathered : {A : Type 0} → Space → (Intent → (at size : ℕ) → List ℕ) → Interaction A → List ℕ
+gathered s bytes m = interpreted s (λ a. []) (λ t. []) (λ i a k rest. bytes i a k ++ rest) m
 
 -- the bytes of a number that are asked for, up to and with the first that has trouble
 abbrev pub asked : Space → Intent → ℕ → ℕ → List ℕ
 asked s i zero a = []
-asked s i (suc k) a = a % 2 ^ 32 ∷ after_valid_byte (s i (a % 2 ^ 32)) (asked s i k (a + 1))
+asked s i (suc k) a = a % 2 ^ 32 ∷ by_result (s i (a % 2 ^ 32)) (λ b. asked s i k (a + 1)) (λ c. [])
 
 -- the bytes that an interaction asks for, up to and with the first that has trouble
 abbrev pub reached : {A : Type 0} → Space → Interaction A → List ℕ
-reached s (Done a) = []
-reached s (Refuse t) = []
-reached s (Touch i a k f) = asked s i k a ++ on_ok (number_at s i k a) (λ v. reached s (f v))
+reached s m = gathered s (λ i a k. asked s i k a) m
 
 abbrev pub IsIn : ℕ → List ℕ → Type 0
 IsIn x [] = ⊥

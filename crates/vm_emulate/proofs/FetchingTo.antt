@@ -2,7 +2,7 @@
 use Rattle.std.proofs.Common.{◌≡◌, ℕ, ◌*◌, List, [], ◌++◌, length, Option, Some, None, Result, Ok, Err, refl, ap, ◌∙◌, sym, subst}
 use Rattle.vax_hw.specs.Machine.{Machine}
 use Rattle.vax_table.specs.Claims.{addresses}
-use Rattle.vax_table.specs.Interaction.{Trouble, bind_result, number_at, on_ok}
+use Rattle.vax_table.specs.Interaction.{Trouble, by_result, number_at}
 use Rattle.vax_table.specs.Stores.{bytes_stored}
 use Rattle.vax_table.specs.Tries.{first_clear, tried_by, unless_clear}
 use Rattle.vax_table.specs.declared.act.Dest.{Dest}
@@ -95,7 +95,7 @@ module _ (m : Machine) (s : Shadowed) (g : GuestState) (t : Trapped) (stands : S
   -- a destination in memory
   module _ (at : ℕ) (dest : t.dest ≡ Memory at) where
     abbrev by_number : Result ℕ Trouble → Sensed
-    by_number r = mfpr_by whole (to (Memory at)) (tried_by (is_clear whole) (addresses 4 at ++ on_ok r (λ v. [])) (bind_result r (λ v. Ok v)))
+    by_number r = mfpr_by whole (to (Memory at)) (tried_by (is_clear whole) (addresses 4 at ++ by_result r (λ v. []) (λ t. [])) (by_result r (λ v. Ok v) Err))
 
     inside : move_from_register whole t ≡ by_number (number_at (space_of whole) Write 4 at)
     inside = ap (λ d. move_from_register whole (to d)) dest

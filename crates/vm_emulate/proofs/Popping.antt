@@ -2,7 +2,7 @@
 use Rattle.std.proofs.Common.{◌≡◌, ℕ, ◌+◌, ◌*◌, ◌/◌, ◌%◌, ◌^◌, ◌<◌, ◌≤◌, Option, Result, Ok, Err, refl, ap, ◌∙◌, sym, subst, arith}
 use Rattle.vv_base.specs.Bytes.{long_at}
 use Rattle.vax_arch.specs.declared.mode.Intent.TheVariants.{Read}
-use Rattle.vax_table.specs.Interaction.{Done, Touch, Trouble, bind_result, number_at, outcome}
+use Rattle.vax_table.specs.Interaction.{Done, Touch, Trouble, by_result, number_at, outcome}
 use Rattle.vax_table.specs.Operand.{plus}
 use Rattle.vm_emulate.specs.Readings.{AnswersReading, ArePopped}
 use Rattle.vm_emulate.specs.declared.reading.Unread.{Unread}
@@ -20,7 +20,7 @@ reads_ok : (g : Guest) (x : Result ℕ Trouble) (v : ℕ) → AnswersReading g x
 reads_ok g (Ok w) v a = ap Ok (sym a)
 reads_ok g (Err t) v a = absurd a
 
-fails : (g : Guest) (x : Result ℕ Trouble) (u : Unread) (f : ℕ → Result contexts.Popped Trouble) → AnswersReading g x (Err u) → ArePopped g (bind_result x f) (Err u)
+fails : (g : Guest) (x : Result ℕ Trouble) (u : Unread) (f : ℕ → Result contexts.Popped Trouble) → AnswersReading g x (Err u) → ArePopped g (by_result x f Err) (Err u)
 fails g (Ok w) u f a = absurd a
 fails g (Err t) u f a = a
 
@@ -35,7 +35,7 @@ module _ (g : Guest) (sp : ℕ) (small : sp < 2 ^ 32) where
       let second : number_at (space_of g) Read 4 (plus sp 4) ≡ Ok psl = ap (number_at (space_of g) Read 4) next ∙ reads_ok g _ psl (found_long g (sp + 4) (pa + 4) psl entry table (omega (arith, small, page)) (omega (arith, page)) later psl_is) in
       let popped : contexts.Popped = record { pc = pc; psl = psl } in
       let all : outcome (space_of g) (two_popped sp) ≡ Ok popped =
-      ap (λ x. bind_result x (λ v. bind_result (number_at (space_of g) Read 4 (plus sp 4)) (λ w. Ok (record { pc = v; psl = w })))) first ∙ ap (λ x. bind_result x (λ w. Ok (record { pc = pc; psl = w }))) second in
+      ap (λ x. by_result x (λ v. by_result (number_at (space_of g) Read 4 (plus sp 4)) (λ w. Ok (record { pc = v; psl = w })) Err) Err) first ∙ ap (λ x. by_result x (λ w. Ok (record { pc = pc; psl = w })) Err) second in
       subst (λ x. ArePopped g x (Ok (record { pc = pc; psl = psl }))) (sym all) refl
 
   pub popped_faulty : (f : MemFault) → walks.Fault f ≡ walk_of g sp (mode_of_state g.state) Read → ArePopped g (outcome (space_of g) (two_popped sp)) (Err (reasons.Faulty f))

@@ -9,7 +9,7 @@ use Rattle.vax_hw.specs.Real.{machine_step}
 use Rattle.vax_hw.specs.declared.world.Exit.TheVariants as exits
 use Rattle.vax_table.specs.Interaction.{IsIn}
 use Rattle.vax_table.specs.Troubles.{intent_of}
-use Rattle.vax_table.proofs.Claims.{among_back, among_front}
+use Rattle.vax_table.proofs.Among.{among_back, among_front}
 use Rattle.vm_simulation_laws.specs.Misses.{EntriesAreValid, FilledEntriesStay, FilledPagesAreCounted, FillsKeepFilled, FoundPagesHaveEntries, KeepsFilled, MissesAreCounted, NewTablesHavePresent, ResetsKeepPresent, StepsKeepPresent, TouchesAreCounted, WritesAreMoves, WritesKeepPresent}
 use Rattle.vm_simulation_laws.specs.Present.{HasEntry, HasPresent, HaveSlots, after_touches, is_filled, pages_of, to_miss}
 use Rattle.vm_simulation_laws.proofs.Adding.{lacked_leaves, touches_pay}

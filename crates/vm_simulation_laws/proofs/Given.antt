@@ -4,10 +4,10 @@ use Rattle.std.proofs.lemmas.List.{length-append}
 use Rattle.std.proofs.Math.Seq.{drop-append_seam, take-append_seam}
 use Rattle.vax_arch.specs.Walk.{page_of}
 use Rattle.vax_arch.specs.declared.mode.Intent.{Intent}
-use Rattle.vax_table.specs.Interaction.{AsFar, At, Below, Cause, Done, Interaction, IsIn, Refuse, Space, Test, Touch, Trouble, after_valid_byte, asked, bind_result, number_at, on_ok, outcome, reached, with_byte}
-use Rattle.vax_table.proofs.Claims.{among_back, among_front}
-use Rattle.vax_table.proofs.Scripts.{outcome_far}
-use Rattle.vm_simulation_laws.proofs.Narrow.{AreAlike, in_either, outcome_alike}
+use Rattle.vax_table.specs.Interaction.{AsFar, At, Below, Cause, Done, Interaction, IsIn, Refuse, Space, Test, Touch, Trouble, asked, by_result, gathered, number_at, outcome, reached, with_byte}
+use Rattle.vax_table.proofs.Among.{among_back, among_front, in_either}
+use Rattle.vax_table.proofs.Scripts.{number_far}
+use Rattle.vm_simulation_laws.proofs.Narrow.{AreAlike, low, number_alike}
 use Rattle.vm_state.specs.Step.{pages_touched}
 
 abbrev pub if_given : ℕ → Result ℕ Cause → List ℕ → List ℕ
@@ -21,9 +21,7 @@ bytes_given s i (suc k) a = if_given (a % 2 ^ 32) (s i (a % 2 ^ 32)) (bytes_give
 
 -- the bytes of an interaction, up to the first that has trouble
 abbrev pub given : {A : Type 0} → Space → Interaction A → List ℕ
-given s (Done a) = []
-given s (Refuse r) = []
-given s (Touch i a k f) = bytes_given s i k a ++ on_ok (number_at s i k a) (λ v. given s (f v))
+given s m = gathered s (λ i a k. bytes_given s i k a) m
 
 -- the byte that has it
 abbrev pub lacking_at : Trouble → List ℕ
@@ -35,7 +33,7 @@ lacked (Ok a) = []
 lacked (Err t) = lacking_at t
 
 -- what is asked for is what is given, and then what is lacked
-one_asked : (i : Intent) (a : ℕ) (x : Result ℕ Cause) (r : Result ℕ Trouble) (rest more : List ℕ) → rest ≡ more ++ lacked r → a ∷ after_valid_byte x rest ≡ if_given a x more ++ lacked (with_byte i a x r)
+one_asked : (i : Intent) (a : ℕ) (x : Result ℕ Cause) (r : Result ℕ Trouble) (rest more : List ℕ) → rest ≡ more ++ lacked r → a ∷ by_result x (λ b. rest) (λ c. []) ≡ if_given a x more ++ lacked (with_byte i a x r)
 one_asked i a (Err c) r rest more e = refl
 one_asked i a (Ok b) (Ok n) rest more e = ap (λ z. a ∷ z) e
 one_asked i a (Ok b) (Err t) rest more e = ap (λ z. a ∷ z) e
@@ -44,7 +42,7 @@ asked_is : (s : Space) (i : Intent) (k a : ℕ) → asked s i k a ≡ bytes_give
 asked_is s i zero a = refl
 asked_is s i (suc k) a = one_asked i (a % 2 ^ 32) (s i (a % 2 ^ 32)) (number_at s i k (a + 1)) (asked s i k (a + 1)) (bytes_given s i k (a + 1)) (asked_is s i k (a + 1))
 
-reached_on : {A : Type 0} (s : Space) (f : ℕ → Interaction A) (r : Result ℕ Trouble) (here more : List ℕ) → here ≡ more ++ lacked r → ((v : ℕ) → reached s (f v) ≡ given s (f v) ++ lacked (outcome s (f v))) → here ++ on_ok r (λ v. reached s (f v)) ≡ (more ++ on_ok r (λ v. given s (f v))) ++ lacked (bind_result r (λ v. outcome s (f v)))
+reached_on : {A : Type 0} (s : Space) (f : ℕ → Interaction A) (r : Result ℕ Trouble) (here more : List ℕ) → here ≡ more ++ lacked r → ((v : ℕ) → reached s (f v) ≡ given s (f v) ++ lacked (outcome s (f v))) → here ++ by_result r (λ v. reached s (f v)) (λ t. []) ≡ (more ++ by_result r (λ v. given s (f v)) (λ t. [])) ++ lacked (by_result r (λ v. outcome s (f v)) Err)
 reached_on s f (Ok v) here more e next = ap (λ z. z ++ reached s (f v)) (e ∙ append-nil more) ∙ ap (λ z. more ++ z) (next v) ∙ sym (append_assoc more (given s (f v)) (lacked (outcome s (f v))))
 reached_on s f (Err t) here more e next = append-nil here ∙ e ∙ ap (λ z. z ++ lacking_at t) (sym (append-nil more))
 
@@ -67,22 +65,6 @@ pages_of_bytes xs (Err (At c i va)) =
 pub touched_is : {A : Type 0} (s : Space) (m : Interaction A) → pages_touched (reached s m) (outcome s m) ≡ record { found = map page_of (given s m); lacking = map page_of (lacked (outcome s m)) }
 touched_is s m = ap (λ xs. pages_touched xs (outcome s m)) (reached_is s m) ∙ pages_of_bytes (given s m) (outcome s m)
 
--- a number is the outcome of its own touch
-alone : (r : Result ℕ Trouble) → bind_result r (λ v. Ok v) ≡ r
-alone (Ok v) = refl
-alone (Err t) = refl
-
-number_far : (s t : Space) → Below s t → (i : Intent) (k a : ℕ) → AsFar s t (number_at s i k a) (number_at t i k a)
-number_far s t below i k a =
-    subst (λ (q : Result ℕ Trouble). AsFar s t (number_at s i k a) q) (alone (number_at t i k a))
-    (subst (λ (r : Result ℕ Trouble). AsFar s t r (bind_result (number_at t i k a) (λ v. Ok v))) (alone (number_at s i k a)) (outcome_far s t below (Touch i a k (λ v. Done v))))
-
-number_alike : (s t : Space) → AreAlike s t → (i : Intent) (k a : ℕ) → number_at s i k a ≡ number_at t i k a
-number_alike s t alike i k a = sym (alone (number_at s i k a)) ∙ outcome_alike s t alike (Touch i a k (λ v. Done v)) ∙ alone (number_at t i k a)
-
-pub low : (a : ℕ) → a % 2 ^ 32 < 2 ^ 32
-low a = omega arith
-
 bytes_alike : (s t : Space) → AreAlike s t → (i : Intent) (k a : ℕ) → bytes_given s i k a ≡ bytes_given t i k a
 bytes_alike s t alike i zero a = refl
 bytes_alike s t alike i (suc k) a = λ j. if_given (a % 2 ^ 32) (alike i (a % 2 ^ 32) (low a) j) (bytes_alike s t alike i k (a + 1) j)
@@ -91,7 +73,7 @@ bytes_alike s t alike i (suc k) a = λ j. if_given (a % 2 ^ 32) (alike i (a % 2 
 pub given_alike : {A : Type 0} (s t : Space) → AreAlike s t → (m : Interaction A) → given s m ≡ given t m
 given_alike s t alike (Done a) = refl
 given_alike s t alike (Refuse r) = refl
-given_alike s t alike (Touch i a k f) = λ j. bytes_alike s t alike i k a j ++ on_ok (number_alike s t alike i k a j) (λ v. given_alike s t alike (f v) j)
+given_alike s t alike (Touch i a k f) = λ j. bytes_alike s t alike i k a j ++ by_result (number_alike s t alike i k a j) (λ v. given_alike s t alike (f v) j) (λ t. [])
 
 -- a byte of a space
 pub record HasByte (s : Space) (va : ℕ) : Type 0 where
@@ -122,18 +104,18 @@ bytes_have s t i (suc k) a stops x h = one_has s t i (a % 2 ^ 32) (low a) (s i (
 
 touch_has : {A : Type 0} (s t : Space) (f : ℕ → Interaction A) (r q : Result ℕ Trouble) (here : List ℕ) → AsFar s t r q → (StopsToo t r → (x : ℕ) → IsIn x here → HasByte s x)
     → ((v : ℕ) → StopsToo t (outcome s (f v)) → (x : ℕ) → IsIn x (given t (f v)) → HasByte s x)
-    → StopsToo t (bind_result r (λ v. outcome s (f v))) → (x : ℕ) → IsIn x here ⊎ IsIn x (on_ok q (λ v. given t (f v))) → HasByte s x
+    → StopsToo t (by_result r (λ v. outcome s (f v)) Err) → (x : ℕ) → IsIn x here ⊎ IsIn x (by_result q (λ v. given t (f v)) (λ t. [])) → HasByte s x
 touch_has s t f (Ok v) q here far now next stops x (inl h) = now tt x h
-touch_has s t f (Ok v) q here far now next stops x (inr h) = next v stops x (subst (λ (z : Result ℕ Trouble). IsIn x (on_ok z (λ v. given t (f v)))) far h)
+touch_has s t f (Ok v) q here far now next stops x (inr h) = next v stops x (subst (λ (z : Result ℕ Trouble). IsIn x (by_result z (λ v. given t (f v)) (λ t. []))) far h)
 touch_has s t f (Err u) q here far now next stops x (inl h) = now stops x h
-touch_has s t f (Err (Test k)) q here far now next stops x (inr h) = absurd (subst (λ (z : Result ℕ Trouble). IsIn x (on_ok z (λ v. given t (f v)))) far h)
-touch_has s t f (Err (At c i a)) q here far now next stops x (inr h) = absurd (subst (λ (z : Result ℕ Trouble). IsIn x (on_ok z (λ v. given t (f v)))) (far.1 stops.0 stops.1) h)
+touch_has s t f (Err (Test k)) q here far now next stops x (inr h) = absurd (subst (λ (z : Result ℕ Trouble). IsIn x (by_result z (λ v. given t (f v)) (λ t. []))) far h)
+touch_has s t f (Err (At c i a)) q here far now next stops x (inr h) = absurd (subst (λ (z : Result ℕ Trouble). IsIn x (by_result z (λ v. given t (f v)) (λ t. []))) (far.1 stops.0 stops.1) h)
 
 -- the lower space has each byte that the upper one gives
 pub given_has : {A : Type 0} (s t : Space) → Below s t → (m : Interaction A) → StopsToo t (outcome s m) → (x : ℕ) → IsIn x (given t m) → HasByte s x
 given_has s t below (Done a) stops x h = absurd h
 given_has s t below (Refuse r) stops x h = absurd h
-given_has s t below (Touch i a k f) stops x h = touch_has s t f (number_at s i k a) (number_at t i k a) (bytes_given t i k a) (number_far s t below i k a) (λ more z j. bytes_have s t i k a more z j) (λ v more z j. given_has s t below (f v) more z j) stops x (in_either x (bytes_given t i k a) (on_ok (number_at t i k a) (λ v. given t (f v))) h)
+given_has s t below (Touch i a k f) stops x h = touch_has s t f (number_at s i k a) (number_at t i k a) (bytes_given t i k a) (number_far s t below i k a) (λ more z j. bytes_have s t i k a more z j) (λ v more z j. given_has s t below (f v) more z j) stops x (in_either x (bytes_given t i k a) (by_result (number_at t i k a) (λ v. given t (f v)) (λ t. [])) h)
 
 -- a byte at which the lower space stops, and which the upper one has, is given
 one_stopped : (t : Space) (i j : Intent) (a va b : ℕ) (c : Cause) (x y : Result ℕ Cause) (r : Result ℕ Trouble) (more : List ℕ) → t i a ≡ y → ((v : ℕ) → x ≡ Ok v → y ≡ Ok v) → t j va ≡ Ok b → (r ≡ Err (At c j va) → IsIn va more) → with_byte i a x r ≡ Err (At c j va) → IsIn va (if_given a y more)
@@ -146,9 +128,9 @@ bytes_stopped : (s t : Space) → Below s t → (i j : Intent) (k a va b : ℕ) 
 bytes_stopped s t below i j zero a va b c has e = cc
 bytes_stopped s t below i j (suc k) a va b c has e = one_stopped t i j (a % 2 ^ 32) va b c (s i (a % 2 ^ 32)) (t i (a % 2 ^ 32)) (number_at s i k (a + 1)) (bytes_given t i k (a + 1)) refl (below i (a % 2 ^ 32)) has (λ h. bytes_stopped s t below i j k (a + 1) va b c has h) e
 
-touch_stopped : {A : Type 0} (s t : Space) (j : Intent) (va : ℕ) (c : Cause) (f : ℕ → Interaction A) (r q : Result ℕ Trouble) (here : List ℕ) → AsFar s t r q → (r ≡ Err (At c j va) → IsIn va here) → ((v : ℕ) → outcome s (f v) ≡ Err (At c j va) → IsIn va (given t (f v))) → bind_result r (λ v. outcome s (f v)) ≡ Err (At c j va) → IsIn va (here ++ on_ok q (λ v. given t (f v)))
-touch_stopped s t j va c f (Ok v) q here far now next e = among_back here (on_ok q (λ v. given t (f v))) va (subst (λ (z : Result ℕ Trouble). IsIn va (on_ok z (λ v. given t (f v)))) (sym far) (next v e))
-touch_stopped s t j va c f (Err u) q here far now next e = let same : u ≡ At c j va = cc in among_front here (on_ok q (λ v. given t (f v))) va (now (ap Err same))
+touch_stopped : {A : Type 0} (s t : Space) (j : Intent) (va : ℕ) (c : Cause) (f : ℕ → Interaction A) (r q : Result ℕ Trouble) (here : List ℕ) → AsFar s t r q → (r ≡ Err (At c j va) → IsIn va here) → ((v : ℕ) → outcome s (f v) ≡ Err (At c j va) → IsIn va (given t (f v))) → by_result r (λ v. outcome s (f v)) Err ≡ Err (At c j va) → IsIn va (here ++ by_result q (λ v. given t (f v)) (λ t. []))
+touch_stopped s t j va c f (Ok v) q here far now next e = among_back here (by_result q (λ v. given t (f v)) (λ t. [])) va (subst (λ (z : Result ℕ Trouble). IsIn va (by_result z (λ v. given t (f v)) (λ t. []))) (sym far) (next v e))
+touch_stopped s t j va c f (Err u) q here far now next e = let same : u ≡ At c j va = cc in among_front here (by_result q (λ v. given t (f v)) (λ t. [])) va (now (ap Err same))
 
 pub stopped_given : {A : Type 0} (s t : Space) → Below s t → (m : Interaction A) (j : Intent) (va b : ℕ) (c : Cause) → t j va ≡ Ok b → outcome s m ≡ Err (At c j va) → IsIn va (given t m)
 stopped_given s t below (Done a) j va b c has e = cc

@@ -1,6 +1,5 @@
 pub mod Narrow
 pub mod Spaces
-pub mod Answered
 pub mod Mapped
 pub mod Meeting
 pub mod Stores

@@ -32,7 +32,7 @@ use Rattle.vm_shadow.proofs.Hearing.{clear_by, heard, missing, probes_filled_ent
 use Rattle.vm_shadow.proofs.Places.{split}
 use Rattle.vm_simulation_laws.specs.Laws.{ExitsMeetTheGuest, IsDenied, IsMissed, IsUnwritten, Meets, place_here}
 use Rattle.vm_simulation_laws.specs.Loaded.{RunsGuest, guest_try}
-use Rattle.vm_simulation_laws.proofs.Answered.{claims_answered}
+use Rattle.vax_table.proofs.Answered.{claims_answered}
 use Rattle.vm_simulation_laws.proofs.Mapped.{mapped, may_be_marked}
 use Rattle.vm_simulation_laws.proofs.Narrow.{HasLow, claims_low, claims_narrow, narrow, narrowly, outcome_low, outcome_narrow}
 use Rattle.vm_simulation_laws.proofs.Spaces.{below, far, last_low, ring_of_asked, guest_byte, machine_bit, machine_byte, machine_instruction, machine_try, same_instruction}

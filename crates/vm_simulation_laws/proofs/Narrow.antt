@@ -3,29 +3,32 @@ use Rattle.std.proofs.Common.{◌≡◌, ℕ, zero, suc, ◌+◌, ◌%◌, ◌^�
 use Rattle.vax_arch.specs.declared.mode.Intent.{Intent}
 use Rattle.vax_arch.specs.declared.mode.Intent.TheVariants as intents
 use Rattle.vax_table.specs.Claims.{addresses, claims, if_write}
-use Rattle.vax_table.specs.Interaction.{At, Cause, Done, Interaction, IsIn, Refuse, Space, Test, Touch, Trouble, bind_result, number_at, on_ok, outcome, with_byte}
+use Rattle.vax_table.specs.Interaction.{At, Cause, Done, Interaction, IsIn, Refuse, Space, Test, Touch, Trouble, by_result, interpreted, number_at, outcome, with_byte}
 use Rattle.vax_table.specs.Tries.{first_clear, tried, tried_by}
+use Rattle.vax_table.proofs.Among.{in_either}
 
 -- two spaces that answer alike at these
 abbrev pub AreAlike : Space → Space → Type 0
 AreAlike s t = (i : Intent) (va : ℕ) → va < 2 ^ 32 → s i va ≡ t i va
 
-low : (a : ℕ) → a % 2 ^ 32 < 2 ^ 32
+pub low : (a : ℕ) → a % 2 ^ 32 < 2 ^ 32
 low a = omega arith
 
-number_alike : (s t : Space) → AreAlike s t → (i : Intent) (k a : ℕ) → number_at s i k a ≡ number_at t i k a
+pub number_alike : (s t : Space) → AreAlike s t → (i : Intent) (k a : ℕ) → number_at s i k a ≡ number_at t i k a
 number_alike s t alike i zero a = refl
 number_alike s t alike i (suc k) a = λ j. with_byte i (a % 2 ^ 32) (alike i (a % 2 ^ 32) (low a) j) (number_alike s t alike i k (a + 1) j)
 
+interpreted_alike : {A B : Type 0} (s t : Space) → AreAlike s t → (done : A → B) (stops : Trouble → B) (touched : Intent → (at size : ℕ) → B → B) (m : Interaction A) →
+    interpreted s done stops touched m ≡ interpreted t done stops touched m
+interpreted_alike s t alike done stops touched (Done a) = refl
+interpreted_alike s t alike done stops touched (Refuse r) = refl
+interpreted_alike s t alike done stops touched (Touch i a k f) = λ j. touched i a k (by_result (number_alike s t alike i k a j) (λ v. interpreted_alike s t alike done stops touched (f v) j) stops)
+
 pub outcome_alike : {A : Type 0} (s t : Space) → AreAlike s t → (m : Interaction A) → outcome s m ≡ outcome t m
-outcome_alike s t alike (Done a) = refl
-outcome_alike s t alike (Refuse r) = refl
-outcome_alike s t alike (Touch i a k f) = λ j. bind_result (number_alike s t alike i k a j) (λ v. outcome_alike s t alike (f v) j)
+outcome_alike s t alike m = interpreted_alike s t alike Ok Err (λ i a k rest. rest) m
 
 pub claims_alike : {A : Type 0} (s t : Space) → AreAlike s t → (m : Interaction A) → claims s m ≡ claims t m
-claims_alike s t alike (Done a) = refl
-claims_alike s t alike (Refuse r) = refl
-claims_alike s t alike (Touch i a k f) = λ j. if_write i (addresses k a) ++ on_ok (number_alike s t alike i k a j) (λ v. claims_alike s t alike (f v) j)
+claims_alike s t alike m = interpreted_alike s t alike (λ a. []) (λ u. []) (λ i a k rest. if_write i (addresses k a) ++ rest) m
 
 -- all of a list have 32 bits
 abbrev pub AreLow : List ℕ → Type 0
@@ -36,20 +39,11 @@ addresses_low zero a x h = absurd h
 addresses_low (suc k) a x (inl e) = omega (arith, e)
 addresses_low (suc k) a x (inr h) = addresses_low k (a + 1) x h
 
-pub in_either : (x : ℕ) (xs ys : List ℕ) → IsIn x (xs ++ ys) → IsIn x xs ⊎ IsIn x ys
-in_either x [] ys h = inr h
-in_either x (y ∷ xs) ys (inl e) = inl (inl e)
-in_either x (y ∷ xs) ys (inr h) = more (in_either x xs ys h)
-  where
-    more : IsIn x xs ⊎ IsIn x ys → IsIn x (y ∷ xs) ⊎ IsIn x ys
-    more (inl i) = inl (inr i)
-    more (inr i) = inr i
-
 written_low : (i : Intent) (k a : ℕ) → AreLow (if_write i (addresses k a))
 written_low intents.Read k a x h = absurd h
 written_low intents.Write k a x h = addresses_low k a x h
 
-after_low : (r : Result ℕ Trouble) (f : ℕ → List ℕ) → ((v : ℕ) → AreLow (f v)) → AreLow (on_ok r f)
+after_low : (r : Result ℕ Trouble) (f : ℕ → List ℕ) → ((v : ℕ) → AreLow (f v)) → AreLow (by_result r f (λ t. []))
 after_low (Ok v) f h x i = h v x i
 after_low (Err t) f h x i = absurd i
 
@@ -63,7 +57,7 @@ two_low xs ys a b x h = by (in_either x xs ys h)
 pub claims_low : {A : Type 0} (s : Space) (m : Interaction A) → AreLow (claims s m)
 claims_low s (Done a) x h = absurd h
 claims_low s (Refuse r) x h = absurd h
-claims_low s (Touch i a k f) x h = two_low (if_write i (addresses k a)) (on_ok (number_at s i k a) (λ v. claims s (f v))) (written_low i k a) (after_low (number_at s i k a) (λ v. claims s (f v)) (λ v. claims_low s (f v))) x h
+claims_low s (Touch i a k f) x h = two_low (if_write i (addresses k a)) (by_result (number_at s i k a) (λ v. claims s (f v)) (λ t. [])) (written_low i k a) (after_low (number_at s i k a) (λ v. claims s (f v)) (λ v. claims_low s (f v))) x h
 
 -- a trouble is of such an address
 abbrev pub HasLow : {A : Type 0} → Result A Trouble → Type 0
@@ -81,7 +75,7 @@ number_low : (s : Space) (i : Intent) (k a : ℕ) → HasLow (number_at s i k a)
 number_low s i zero a = tt
 number_low s i (suc k) a = byte_low i (a % 2 ^ 32) (s i (a % 2 ^ 32)) (number_at s i k (a + 1)) (low a) (number_low s i k (a + 1))
 
-bind_low : {A : Type 0} (r : Result ℕ Trouble) (f : ℕ → Result A Trouble) → HasLow r → ((v : ℕ) → HasLow (f v)) → HasLow (bind_result r f)
+bind_low : {A : Type 0} (r : Result ℕ Trouble) (f : ℕ → Result A Trouble) → HasLow r → ((v : ℕ) → HasLow (f v)) → HasLow (by_result r f Err)
 bind_low (Ok v) f h k = k v
 bind_low (Err (Test r)) f h k = tt
 bind_low (Err (At c i va)) f h k = h

@@ -29,7 +29,7 @@ use Rattle.vm_shadow.proofs.Covering.{own_is}
 use Rattle.vm_shadow.proofs.Hearing.{clear_by, probes, size_is}
 use Rattle.vm_simulation_laws.specs.Laws.{IsRetired, Leaves, RetiresTheGuest, frames_claimed}
 use Rattle.vm_simulation_laws.specs.Loaded.{RunsGuest, as_run, frames_opened, guest_try}
-use Rattle.vm_simulation_laws.proofs.Answered.{claims_answered}
+use Rattle.vax_table.proofs.Answered.{claims_answered}
 use Rattle.vm_simulation_laws.proofs.Claimed.{claimed_written}
 use Rattle.vm_simulation_laws.proofs.Mapped.{mapped}
 use Rattle.vm_simulation_laws.proofs.Meeting.{byte_ok}

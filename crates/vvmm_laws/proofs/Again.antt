@@ -11,7 +11,7 @@ use Rattle.vax_table.specs.Effects.{long_of}
 use Rattle.vax_table.specs.Probing.{last_of}
 use Rattle.vax_table.specs.Interaction.{Trouble, outcome, reached}
 use Rattle.vax_table.specs.Whole.{Act, Meant, Plain, Probes, Traps}
-use Rattle.vax_table.proofs.Claims.{among_back, among_front}
+use Rattle.vax_table.proofs.Among.{among_back, among_front}
 use Rattle.vvmm_laws.proofs.Agreeing.{outcome_same, reached_same}
 use Rattle.vvmm_laws.proofs.Reading.{each_same, judges_there, like}
 use Rattle.vvmm_laws.proofs.Walked.{narrowed, place_same, walk_looks}

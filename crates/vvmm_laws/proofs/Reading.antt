@@ -23,9 +23,10 @@ use Rattle.vax_table.specs.Tries.{Tried, first_clear, tried, tried_by, unless_cl
 use Rattle.vax_table.specs.Whole.{Act, Meant, Plain, Probes, Traps, meant}
 use Rattle.vax_table.specs.declared.effect.Store.{Store}
 use Rattle.vax_table.specs.declared.evaluation.Operands.{Operands}
-use Rattle.vax_table.proofs.Claims.{among_back, among_front}
+use Rattle.vax_table.proofs.Among.{among_back, among_front}
+use Rattle.vax_table.proofs.Answered.{claims_answered}
 use Rattle.vax_table.proofs.Wholes.{exactly_claimed}
-use Rattle.vvmm_laws.proofs.Agreeing.{claims_answered, claims_reached, tried_same}
+use Rattle.vvmm_laws.proofs.Agreeing.{claims_reached, tried_same}
 use Rattle.vvmm_laws.proofs.Walked.{byte_same, judged_same, mark_same, narrowed, place_is, place_same}
 
 -- Each address that is asked for.

@@ -22,8 +22,9 @@ use Rattle.vax_table.specs.Tries.{first_clear, tried_by, unless_clear}
 use Rattle.vax_table.specs.Whole.{Act, Meant, Plain, Probes, Traps}
 use Rattle.vax_table.specs.declared.effect.Store.{Store}
 use Rattle.vax_table.specs.declared.evaluation.Operands.{Operands}
-use Rattle.vax_table.proofs.Claims.{among_back, among_front}
-use Rattle.vvmm_laws.proofs.Agreeing.{claims_answered, claims_reached}
+use Rattle.vax_table.proofs.Among.{among_back, among_front}
+use Rattle.vax_table.proofs.Answered.{claims_answered}
+use Rattle.vvmm_laws.proofs.Agreeing.{claims_reached}
 use Rattle.vvmm_laws.proofs.Reading.{one_among, stored_claimed}
 use Rattle.vvmm_laws.proofs.Walked.{place_read}
 

@@ -18,7 +18,7 @@ use Rattle.vvmm_laws.specs.Machine.{HasTheSame}
 use Rattle.vvmm_laws.specs.Reads.{all_four, found_by, four_from, mapping_at, mapping_of, place_if, places_walked}
 use Rattle.vax_table.specs.Claims.{AreAmong}
 use Rattle.vax_table.specs.Interaction.{Cause}
-use Rattle.vax_table.proofs.Claims.{among_back, among_front}
+use Rattle.vax_table.proofs.Among.{among_back, among_front}
 
 pub narrowed : (places more memory other : List ℕ) → AreAmong places more → HasTheSame more memory other → HasTheSame places memory other
 narrowed places more memory other among h place g = h place (among place g)
