@@ -77,8 +77,8 @@ fn of_table(alloc: Global, table: &Table) -> Result<Config, ConfigError>
     Ok(config)
 }
 
-/// The table that the bytes are.
-fn document(alloc: Global, b: &[u8]) -> Result<Table, ConfigError>
+/// The table that the bytes are, or that they break rule 0.
+pub fn document(alloc: Global, b: &[u8]) -> Result<Table, ConfigError>
     ensures { IsConfigAnswer table_view result (by_rule 0 0 (document_of b.now)) }
 {
     match toml::table_from_slice(alloc, b) {

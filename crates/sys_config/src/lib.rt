@@ -12,7 +12,7 @@ mod reads;
 mod top;
 mod write;
 
-pub use config::{config_laws, read_config};
+pub use config::{config_laws, document, read_config};
 pub use sys_objects::{
     Audit, Config, ConfigError, ConfigFault, GuestRow, Mount, PrinterRow, Rows, Terminal, VolumeRow,
 };

@@ -74,7 +74,9 @@ pub fn echo<O: Sink, L: Lines>(
     requires { All (λ screen. screen.line < 32) screens.old.items }
     ensures echoes { Echoes (is_err result) (L.lines lines.old) screens.old.items (O.printed out.old) (O.printed out.new) }
     ensures same { AreSameScreens screens.old.items screens.new.items }
-    ensures seen { IfOk result (λ _. All (λ screen. IsLineKnown (slice_index_or (L.lines lines.old) screen.line unseen) → new_on (L.lines lines.old) screen ≡ []) screens.new.items) }
+    ensures seen { IfOk result (λ _. All (λ screen. IsLineKnown
+        (slice_index_or (L.lines lines.old) screen.line unseen) → new_on (L.lines lines.old) screen ≡ [])
+        screens.new.items) }
     ensures within { AreWithin (L.lines lines.old) screens.old.items → AreWithin (L.lines lines.old) screens.new.items }
     ensures stays { L.lines lines.new ≡ L.lines lines.old }
 {

@@ -12,7 +12,7 @@ use Rattle.sys_events.proofs.Lists.{take_set}
 use Rattle.sys_events.specs.Happens.{server_obeyed}
 use Rattle.sys_events.specs.Seats.{IsServer, Names}
 use Rattle.sys_guests.specs.Changes.{ChangesOne, StartsOne, TakesStateAt}
-use Rattle.sys_guests.specs.Kernel.{IsKernel, Leads, kernel_state}
+use Rattle.sys_guests.specs.Kernel.{IsKernel, Leads, kernel_state, scene}
 use Rattle.sys_guests.specs.Layout.{AreInMachine, end_of_guests, guests_in}
 use Rattle.sys_guests.specs.declared.kernel.Kernel.{Kernel}
 use Rattle.sys_devices.proofs.Showings.{shows_none, shows_same, shows_then}
@@ -39,7 +39,7 @@ pub kernel_holds : (memory : List ℕ) (k : Kernel) → IsConfig k.config → Ar
 kernel_holds memory k accepted placed h = record { accepted = accepted; placed = placed; terminals = h.terminals; guests = h.guests; consoles = h.consoles; beyond = h.beyond; mounts = h.mounts }
 
 -- one after another
-pub leads_then : {v w : Went SystemState} {m n o : Machine} {k k' k'' : Kernel} {l l' l'' : List Seen} {x y : Volumes} → Leads v m k l n k' x l' → Leads w n k' l' o k'' y l'' → Leads (record { now = w.now; puts = v.puts ++ w.puts }) m k l o k'' y l''
+pub leads_then : {v w : Went SystemState} {m n o : Machine} {k k' k'' : Kernel} {l l' l'' : List Seen} {x y : Volumes} → Leads v (scene m k l) (scene n k' l') x → Leads w (scene n k' l') (scene o k'' l'') y → Leads (record { now = w.now; puts = v.puts ++ w.puts }) (scene m k l) (scene o k'' l'') y
 leads_then {v} {w} {m} {n} {o} {k} {k'} {k''} {l} {l'} {l''} {x} {y} a b = record {
   state = b.state;
   shows = shows_same k.marks k''.marks l l'' (λ line. bytes_on line v.puts ++ bytes_on line w.puts) (λ line. bytes_on line (v.puts ++ w.puts)) (λ line. sym (bytes_append line v.puts w.puts)) (shows_then a.shows b.shows);
@@ -51,7 +51,7 @@ leads_then {v} {w} {m} {n} {o} {k} {k'} {k''} {l} {l'} {l''} {x} {y} a b = recor
 }
 
 -- the same, with the definition in another form
-pub leads_same : {v : Went SystemState} {m n : Machine} {k k' : Kernel} {l l' : List Seen} {x : Volumes} (w : Went SystemState) → v.now ≡ w.now → ((line : ℕ) → bytes_on line v.puts ≡ bytes_on line w.puts) → Leads v m k l n k' x l' → Leads w m k l n k' x l'
+pub leads_same : {v : Went SystemState} {m n : Machine} {k k' : Kernel} {l l' : List Seen} {x : Volumes} (w : Went SystemState) → v.now ≡ w.now → ((line : ℕ) → bytes_on line v.puts ≡ bytes_on line w.puts) → Leads v (scene m k l) (scene n k' l') x → Leads w (scene m k l) (scene n k' l') x
 leads_same {v} {m} {n} {k} {k'} {l} {l'} {x} w now puts a = record {
   state = a.state ∙ now;
   shows = shows_same k.marks k'.marks l l' (λ line. bytes_on line v.puts) (λ line. bytes_on line w.puts) puts a.shows;
@@ -63,7 +63,7 @@ leads_same {v} {m} {n} {k} {k'} {l} {l'} {x} w now puts a = record {
 }
 
 -- nothing happens
-pub leads_none : (m : Machine) (k : Kernel) (l : List Seen) (x : Volumes) → IsKernel m.memory k → Leads (record { now = kernel_state m.memory k x; puts = [] }) m k l m k x l
+pub leads_none : (m : Machine) (k : Kernel) (l : List Seen) (x : Volumes) → IsKernel m.memory k → Leads (record { now = kernel_state m.memory k x; puts = [] }) (scene m k l) (scene m k l) x
 leads_none m k l x h = record {
   state = refl;
   shows = shows_none k.marks l;
@@ -75,7 +75,7 @@ leads_none m k l x h = record {
 }
 
 -- something is shown
-pub leads_shown : (m : Machine) (k : Kernel) (marks' : List Bool) (l l' : List Seen) (x : Volumes) (puts : List Put) → IsKernel m.memory k → Shows k.marks marks' l l' (λ line. bytes_on line puts) → Leads (record { now = kernel_state m.memory k x; puts = puts }) m k l m (record k { marks = marks' }) x l'
+pub leads_shown : (m : Machine) (k : Kernel) (marks' : List Bool) (l l' : List Seen) (x : Volumes) (puts : List Put) → IsKernel m.memory k → Shows k.marks marks' l l' (λ line. bytes_on line puts) → Leads (record { now = kernel_state m.memory k x; puts = puts }) (scene m k l) (scene m (record k { marks = marks' }) l') x
 leads_shown m k marks' l l' x puts h shows = record {
   state = refl;
   shows = shows;
@@ -88,7 +88,7 @@ leads_shown m k marks' l l' x puts h shows = record {
 
 -- a guest is changed, in this machine
 changed_guest : (m m' : Machine) (k : Kernel) (guests' : Vec Kept Global) (port' : KeptOutput) (l : List Seen) (x : Volumes) (place : ℕ) (f : Guest → Guest) → IsKernel m.memory k → ChangesOne k.config.guests place f m k.guests.items m' guests'.items → m' ≡ record m { memory = m'.memory }
-    → Leads (record { now = record (kernel_state m.memory k x) { guests = changed f (guests_in m.memory k.guests.items) place }; puts = [] }) m k l m' (record k { guests = guests'; port = port' }) x l
+    → Leads (record { now = record (kernel_state m.memory k x) { guests = changed f (guests_in m.memory k.guests.items) place }; puts = [] }) (scene m k l) (scene m' (record k { guests = guests'; port = port' }) l) x
 changed_guest m m' k guests' port' l x place f h c rest = record {
   state = λ i. record (kernel_state m.memory k x) { guests = c.guests i };
   shows = shows_none k.marks l;
@@ -100,16 +100,16 @@ changed_guest m m' k guests' port' l x place f h c rest = record {
 }
 
 pub leads_turned : (m : Machine) (k : Kernel) (guests' : Vec Kept Global) (port' : KeptOutput) (l : List Seen) (x : Volumes) (place : ℕ) (f : Guest → Guest) → IsKernel m.memory k → TakesStateAt place f k.guests.items guests'.items
-    → Leads (record { now = record (kernel_state m.memory k x) { guests = changed f (guests_in m.memory k.guests.items) place }; puts = [] }) m k l m (record k { guests = guests'; port = port' }) x l
+    → Leads (record { now = record (kernel_state m.memory k x) { guests = changed f (guests_in m.memory k.guests.items) place }; puts = [] }) (scene m k l) (scene m (record k { guests = guests'; port = port' }) l) x
 leads_turned m k guests' port' l x place f h turns = changed_guest m m k guests' port' l x place f h (turns k.config.guests m h.placed) refl
 
 pub leads_started : (m m' : Machine) (k : Kernel) (guests' : Vec Kept Global) (l : List Seen) (x : Volumes) (place : ℕ) (row : GuestRow) → IsKernel m.memory k → slice_get k.config.guests place ≡ Some row → StartsOne place m k.guests.items m' guests'.items → m' ≡ record m { memory = m'.memory }
-    → Leads (record { now = record (kernel_state m.memory k x) { guests = changed (reset row) (guests_in m.memory k.guests.items) place }; puts = [] }) m k l m' (record k { guests = guests' }) x l
+    → Leads (record { now = record (kernel_state m.memory k x) { guests = changed (reset row) (guests_in m.memory k.guests.items) place }; puts = [] }) (scene m k l) (scene m' (record k { guests = guests' }) l) x
 leads_started m m' k guests' l x place row h is starts rest = changed_guest m m' k guests' k.port l x place (reset row) h (starts k.config.guests row h.placed is) rest
 
 -- the server does what is granted
 pub leads_served : (m : Machine) (k : Kernel) (l : List Seen) (x : Volumes) (n : ℕ) (command : Command) → IsKernel m.memory k → n < length k.config.terminals → HasPlaces command → Names k.config command
-    → Leads (server_obeyed n command (kernel_state m.memory k x)) m k l m (record k { server = applied k.server n command }) x l
+    → Leads (server_obeyed n command (kernel_state m.memory k x)) (scene m k l) (scene m (record k { server = applied k.server n command }) l) x
 leads_served m k l x n command h there places names =
     let running : List Bool = map is_running (guests_in m.memory k.guests.items) in
     let connected = same_consoles k.config k.server running n command in
@@ -126,7 +126,7 @@ leads_served m k l x n command h there places names =
 
 -- a terminal is disconnected
 pub leads_disconnected : (m : Machine) (k : Kernel) (l : List Seen) (x : Volumes) (n : ℕ) → IsKernel m.memory k → n < length k.config.terminals
-    → Leads (record { now = record (kernel_state m.memory k x) { connected = slice_set (take (length k.config.terminals) k.server.at) n None }; puts = [] }) m k l m (record k { server = record k.server { at = slice_set k.server.at n None } }) x l
+    → Leads (record { now = record (kernel_state m.memory k x) { connected = slice_set (take (length k.config.terminals) k.server.at) n None }; puts = [] }) (scene m k l) (scene m (record k { server = record k.server { at = slice_set k.server.at n None } }) l) x
 leads_disconnected m k l x n h there =
     let connected = take_set (length k.config.terminals) k.server.at n None in
     record {

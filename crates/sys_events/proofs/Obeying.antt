@@ -15,7 +15,7 @@ use Rattle.sys_events.specs.Happens.{Does, DoesAnywhere, DoesUnseen, asked_at, a
 use Rattle.sys_events.specs.Saying.{answers, audits, puts_on, runs, show_lines, taken_notice, taken_puts}
 use Rattle.sys_events.specs.Seats.{Names, took}
 use Rattle.sys_guests.specs.Changes.{StartsOne, StopShows, TakesStateAt}
-use Rattle.sys_guests.specs.Kernel.{IsKernel, Leads, kernel_state}
+use Rattle.sys_guests.specs.Kernel.{IsKernel, Leads, kernel_state, scene}
 use Rattle.sys_guests.specs.declared.kernel.Kernel.{Kernel}
 use Rattle.sys_devices.specs.Shows.{Shows, only_on}
 use Rattle.sys_objects.specs.declared.records.Config.{Config}
@@ -60,7 +60,7 @@ quiet c s n (Some t) v none = none c s n t
 
 -- START
 pub starts : (m m' : Machine) (k : Kernel) (guests' : Vec Kept Global) (l : List Seen) (n g : ℕ) → IsKernel m.memory k → g < length k.config.guests → StartsOne g m k.guests.items m' guests'.items → m' ≡ record m { memory = m'.memory }
-    → Does (guests_obeyed k.config n (Start g)) m k l m' (record k { guests = guests' }) l
+    → Does (guests_obeyed k.config n (Start g)) (scene m k l) (scene m' (record k { guests = guests' }) l)
 starts m m' k guests' l n g h there start rest x =
     let s : SystemState = kernel_state m.memory k x in
     let (row, is) = get_within k.config.guests g there in
@@ -70,7 +70,7 @@ starts m m' k guests' l n g h there start rest x =
     (leads_started m m' k guests' l x g row h is start rest)
 
 -- HALT
-pub halts : (m : Machine) (k k' : Kernel) (l l' : List Seen) (n g : ℕ) → IsKernel m.memory k → n < length k.config.terminals → DoesAnywhere (guest_halted k.config g) k l k' l' → Does (guests_obeyed k.config n (Halt g)) m k l m k' l'
+pub halts : (m : Machine) (k k' : Kernel) (l l' : List Seen) (n g : ℕ) → IsKernel m.memory k → n < length k.config.terminals → DoesAnywhere (guest_halted k.config g) k l k' l' → Does (guests_obeyed k.config n (Halt g)) (scene m k l) (scene m k' l')
 halts m k k' l l' n g h there does x =
     let s : SystemState = kernel_state m.memory k x in
     let (t, is) = get_within k.config.terminals n there in
@@ -82,7 +82,7 @@ shown_same c s n ks None e = refl
 shown_same c s n ks (Some t) e = ap (λ (rs : List Bool). puts_on t.line (shown_lines c (record { at = []; mounts = []; running = rs }) t.class)) (sym e)
 
 pub shows_all : (m : Machine) (k : Kernel) (marks' : List Bool) (l l' : List Seen) (n : ℕ) (ks : List Kept) → IsKernel m.memory k → ks ≡ k.guests.items → Shows k.marks marks' l l' (λ line. bytes_on line (show_lines k.config ks (slice_get k.config.terminals n)))
-    → Does (guests_obeyed k.config n Show) m k l m (record k { marks = marks' }) l'
+    → Does (guests_obeyed k.config n Show) (scene m k l) (scene m (record k { marks = marks' }) l')
 shows_all m k marks' l l' n ks h same shows x =
     let s : SystemState = kernel_state m.memory k x in
     let o : Option Terminal = slice_get k.config.terminals n in
@@ -90,7 +90,7 @@ shows_all m k marks' l l' n ks h same shows x =
     (leads_shown m k marks' l l' x (show_lines k.config ks o) h shows)
 
 -- the others do nothing to guests
-pub rests : (m : Machine) (k : Kernel) (l : List Seen) (n : ℕ) (command : Command) → IsKernel m.memory k → ((c : Config) (gs : List Guest) → gs ≡ guests_by c command gs) → IsQuiet (Granted command) → Does (guests_obeyed k.config n command) m k l m k l
+pub rests : (m : Machine) (k : Kernel) (l : List Seen) (n : ℕ) (command : Command) → IsKernel m.memory k → ((c : Config) (gs : List Guest) → gs ≡ guests_by c command gs) → IsQuiet (Granted command) → Does (guests_obeyed k.config n command) (scene m k l) (scene m k l)
 rests m k l n command h same none x =
     let s : SystemState = kernel_state m.memory k x in
     leads_same (guests_obeyed k.config n command s) (λ i. record s { guests = same k.config s.guests i }) (λ line. ap (λ (ps : List Put). bytes_on line ps) (sym (quiet k.config s n (slice_get k.config.terminals n) (Granted command) none)))
@@ -109,17 +109,17 @@ before_same c s n Show (Some t) = refl
 
 -- a granted command: the server's part, and then the guests'
 pub obeys : (m m' : Machine) (k k' : Kernel) (l l' : List Seen) (n : ℕ) (command : Command) → IsKernel m.memory k → n < length k.config.terminals → HasPlaces command → Names k.config command
-    → Does (guests_obeyed k.config n command) m (record k { server = applied k.server n command }) l m' k' l' → Does (verdict_carried_out k.config n (Granted command)) m k l m' k' l'
+    → Does (guests_obeyed k.config n command) (scene m (record k { server = applied k.server n command }) l) (scene m' k' l') → Does (verdict_carried_out k.config n (Granted command)) (scene m k l) (scene m' k' l')
 obeys m m' k k' l l' n command h there places names does x =
     let c : Config = k.config in
     let s : SystemState = kernel_state m.memory k x in
     let k1 : Kernel = record k { server = applied k.server n command } in
     let served = leads_served m k l x n command h there places names in
-    let acted : Leads (guests_obeyed c n command (server_obeyed n command s).now) m k1 l m' k' x l' = subst (λ (z : SystemState). Leads (guests_obeyed c n command z) m k1 l m' k' x l') served.state (does x) in
+    let acted : Leads (guests_obeyed c n command (server_obeyed n command s).now) (scene m k1 l) (scene m' k' l') x = subst (λ (z : SystemState). Leads (guests_obeyed c n command z) (scene m k1 l) (scene m' k' l') x) served.state (does x) in
     leads_same (verdict_carried_out c n (Granted command) s) refl (λ line. ap (λ (ps : List Put). bytes_on line ps) (before_same c s n command (slice_get c.terminals n))) (leads_then served acted)
 
 -- any other verdict does nothing
-pub refuses : (m : Machine) (k : Kernel) (l : List Seen) (n : ℕ) (v : Verdict) → IsKernel m.memory k → ((c : Config) (s : SystemState) → s ≡ state_after c n v s) → IsQuiet v → Does (verdict_carried_out k.config n v) m k l m k l
+pub refuses : (m : Machine) (k : Kernel) (l : List Seen) (n : ℕ) (v : Verdict) → IsKernel m.memory k → ((c : Config) (s : SystemState) → s ≡ state_after c n v s) → IsQuiet v → Does (verdict_carried_out k.config n v) (scene m k l) (scene m k l)
 refuses m k l n v h same none x =
     let s : SystemState = kernel_state m.memory k x in
     leads_same (verdict_carried_out k.config n v s) (same k.config s) (λ line. ap (λ (ps : List Put). bytes_on line ps) (sym (quiet k.config s n (slice_get k.config.terminals n) v none))) (leads_none m k l x h)
@@ -197,10 +197,10 @@ order c round s n t text v o taken is later =
 
 -- a command is carried out, replied to, and audited
 pub commands : (m m' : Machine) (k k' : Kernel) (a b : List Bool) (l l' l'' l''' : List Seen) (round n : ℕ) (text : List ℕ) (v : Verdict) (taken : Option ℕ) → IsKernel m.memory k → n < length k.config.terminals → v ≡ verdict_of k.config k.server n text → taken ≡ took k.server n v
-    → Does (verdict_carried_out k.config n v) m k l m' k' l'
+    → Does (verdict_carried_out k.config n v) (scene m k l) (scene m' k' l')
     → Shows k'.marks a l' l'' (λ line. bytes_on line (answers k'.config (slice_get k'.config.terminals n) v taken))
     → Shows a b l'' l''' (λ line. bytes_on line (audits k'.config round (slice_get k'.config.terminals n) text v))
-    → Does (asked_at k.config round n text) m k l m' (record k' { marks = b }) l'''
+    → Does (asked_at k.config round n text) (scene m k l) (scene m' (record k' { marks = b }) l''')
 commands m m' k k' a b l l' l'' l''' round n text v taken h there judged takes does replies audit x =
     let c : Config = k.config in
     let s : SystemState = kernel_state m.memory k x in
@@ -213,10 +213,10 @@ commands m m' k k' a b l l' l'' l''' round n text v taken h there judged takes d
     let later : taken_puts c taken ≡ (after_verdict c s n t v).later = ap (taken_puts c) (takes ∙ sym (same_took c k.server running (server_holds m.memory k h) n there v)) ∙ puts_taken c s n t v in
     let e : shown_before c s n (slice_get c.terminals n) v ++ puts k'.config ≡ (commanded c round s n t text v).puts =
     ap (λ (c' : Config). shown_before c s n (slice_get c.terminals n) v ++ puts c') carried.config ∙ order c round s n t text v (slice_get c.terminals n) taken is later in
-    let asked : Leads (commanded c round s n t text v) m k l m' (record k' { marks = b }) x l''' = leads_same (commanded c round s n t text v) (carried.state ∙ state_is c s n t v) (λ line. ap (λ (ps : List Put). bytes_on line ps) e) whole in
+    let asked : Leads (commanded c round s n t text v) (scene m k l) (scene m' (record k' { marks = b }) l''') x = leads_same (commanded c round s n t text v) (carried.state ∙ state_is c s n t v) (λ line. ap (λ (ps : List Put). bytes_on line ps) e) whole in
     let same : v ≡ verdict_of c (server_of s) n text = judged ∙ sym (same_verdict c k.server running n text) in
-    subst (λ (o : Option Terminal). Leads (asked_at_row c round n text s o) m k l m' (record k' { marks = b }) x l''') (sym is)
-    (subst (λ (w : Verdict). Leads (commanded c round s n t text w) m k l m' (record k' { marks = b }) x l''') same asked)
+    subst (λ (o : Option Terminal). Leads (asked_at_row c round n text s o) (scene m k l) (scene m' (record k' { marks = b }) l''') x) (sym is)
+    (subst (λ (w : Verdict). Leads (commanded c round s n t text w) (scene m k l) (scene m' (record k' { marks = b }) l''') x) same asked)
 
 -- a kernel whose server did what is granted
 pub served_holds : (memory : List ℕ) (k : Kernel) (server' : ServerState) (n : ℕ) (command : Command) → IsKernel memory k → n < length k.config.terminals → HasPlaces command → Names k.config command → server' ≡ applied k.server n command → IsKernel memory (record k { server = server' })
@@ -225,16 +225,16 @@ served_holds memory k server' n command h there places names is =
     subst (λ (s : ServerState). IsKernel memory (record k { server = s })) (sym is) made
 
 pub obeys_by : (m m' : Machine) (k k' : Kernel) (server' : ServerState) (l l' : List Seen) (n : ℕ) (command : Command) → IsKernel m.memory k → n < length k.config.terminals → HasPlaces command → Names k.config command → server' ≡ applied k.server n command
-    → Does (guests_obeyed k.config n command) m (record k { server = server' }) l m' k' l' → Does (verdict_carried_out k.config n (Granted command)) m k l m' k' l'
+    → Does (guests_obeyed k.config n command) (scene m (record k { server = server' }) l) (scene m' k' l') → Does (verdict_carried_out k.config n (Granted command)) (scene m k l) (scene m' k' l')
 obeys_by m m' k k' server' l l' n command h there places names is does =
-    obeys m m' k k' l l' n command h there places names (subst (λ (s : ServerState). Does (guests_obeyed k.config n command) m (record k { server = s }) l m' k' l') is does)
+    obeys m m' k k' l l' n command h there places names (subst (λ (s : ServerState). Does (guests_obeyed k.config n command) (scene m (record k { server = s }) l) (scene m' k' l')) is does)
 
 -- the same of a command or a verdict that is known to be one of these
-pub as_command : (m m' : Machine) (k k' : Kernel) (l l' : List Seen) (n : ℕ) (command known : Command) → command ≡ known → Does (guests_obeyed k.config n known) m k l m' k' l' → Does (guests_obeyed k.config n command) m k l m' k' l'
-as_command m m' k k' l l' n command known is does = subst (λ (d : Command). Does (guests_obeyed k.config n d) m k l m' k' l') (sym is) does
+pub as_command : (m m' : Machine) (k k' : Kernel) (l l' : List Seen) (n : ℕ) (command known : Command) → command ≡ known → Does (guests_obeyed k.config n known) (scene m k l) (scene m' k' l') → Does (guests_obeyed k.config n command) (scene m k l) (scene m' k' l')
+as_command m m' k k' l l' n command known is does = subst (λ (d : Command). Does (guests_obeyed k.config n d) (scene m k l) (scene m' k' l')) (sym is) does
 
-pub as_verdict : (m m' : Machine) (k k' : Kernel) (l l' : List Seen) (n : ℕ) (v known : Verdict) → v ≡ known → Does (verdict_carried_out k.config n known) m k l m' k' l' → Does (verdict_carried_out k.config n v) m k l m' k' l'
-as_verdict m m' k k' l l' n v known is does = subst (λ (w : Verdict). Does (verdict_carried_out k.config n w) m k l m' k' l') (sym is) does
+pub as_verdict : (m m' : Machine) (k k' : Kernel) (l l' : List Seen) (n : ℕ) (v known : Verdict) → v ≡ known → Does (verdict_carried_out k.config n known) (scene m k l) (scene m' k' l') → Does (verdict_carried_out k.config n v) (scene m k l) (scene m' k' l')
+as_verdict m m' k k' l l' n v known is does = subst (λ (w : Verdict). Does (verdict_carried_out k.config n w) (scene m k l) (scene m' k' l')) (sym is) does
 
 pub names_known : (c : Config) (command known : Command) → command ≡ known → Names c command → Names c known
 names_known c command known is names = subst (Names c) is names

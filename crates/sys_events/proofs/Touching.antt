@@ -7,7 +7,7 @@ use Rattle.sys_events.proofs.Happening.{connected_at}
 use Rattle.sys_events.proofs.Leading.{Volumes}
 use Rattle.sys_events.proofs.Seats.{same_verdict}
 use Rattle.sys_events.specs.Happens.{Happen, Happens, line_starts_at}
-use Rattle.sys_guests.specs.Kernel.{kernel_state}
+use Rattle.sys_guests.specs.Kernel.{kernel_state, scene}
 use Rattle.sys_guests.specs.Layout.{guests_in}
 use Rattle.sys_guests.specs.Present.{HavePresent, KeepsAll}
 use Rattle.sys_guests.specs.declared.kernel.Kernel.{Kernel}
@@ -65,7 +65,7 @@ touches_more : (c : Config) (round : ℕ) (s : SystemState) (es : List Event) (e
 touches_more c round s [] e ts = refl
 touches_more c round s (d ∷ es) e ts = touches_more c round (happened c round s d).now es e (with_reset (event_starts c s d) (happened c round s d).now.guests ts)
 
-pub one_more_so : (m m' m'' : Machine) (k k' k'' : Kernel) (l l' l'' : List Seen) (round : ℕ) (es : List Event) (i : ℕ) (e : Event) → i < length es → e ≡ slice_index_or es i e → Happen round (take i es) m k l m' k' l' → Happens round e m' k' l' m'' k'' l''
+pub one_more_so : (m m' m'' : Machine) (k k' k'' : Kernel) (l l' l'' : List Seen) (round : ℕ) (es : List Event) (i : ℕ) (e : Event) → i < length es → e ≡ slice_index_or es i e → Happen round (take i es) (scene m k l) (scene m' k' l') → Happens round e (scene m' k' l') (scene m'' k'' l'')
     → ((x : Volumes) → KeepsAll (touches_of_events k.config round (kernel_state m.memory k x) (take i es)) k.guests.items k'.guests.items)
     → ((x : Volumes) → KeepsAll (with_reset (event_starts k'.config (kernel_state m'.memory k' x) e) (guests_in m''.memory k''.guests.items)) k'.guests.items k''.guests.items)
     → (x : Volumes) → KeepsAll (touches_of_events k.config round (kernel_state m.memory k x) (take (i + 1) es)) k.guests.items k''.guests.items

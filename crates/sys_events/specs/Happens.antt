@@ -2,13 +2,15 @@
 use Rattle.std.specs.Prelude.{ℕ, List, [], Option, Some, None, slice_get}
 use Rattle.vax_hw.specs.Machine.{Machine}
 use Rattle.vv_io.specs.Lines.{Seen}
-use Rattle.sys_guests.specs.Kernel.{IsKernel, Leads, kernel_state}
+use Rattle.sys_guests.specs.Kernel.{IsKernel, Leads, Scene, kernel_state, scene}
+use Rattle.sys_guests.specs.Layout.{guests_in}
+use Rattle.sys_guests.specs.Present.{KeepsAll}
 use Rattle.sys_guests.specs.declared.kernel.Kernel.{Kernel}
 use Rattle.sys_objects.specs.declared.records.Config.{Config}
 use Rattle.sys_objects.specs.declared.records.Terminal.{Terminal}
 use Rattle.sys_state.specs.Events.{after_verdict, at_row, commanded, events, happened, message_of, reset_by}
 use Rattle.sys_state.specs.Consoles.{console_of, on_console}
-use Rattle.sys_state.specs.FirstTouches.{typing_starts}
+use Rattle.sys_state.specs.FirstTouches.{typing_starts, with_reset}
 use Rattle.sys_state.specs.Guests.{stopped_by_command, typed}
 use Rattle.sys_state.specs.Places.{changed}
 use Rattle.sys_state.specs.State.{Put, SystemState, Went, server_of}
@@ -23,23 +25,27 @@ use Rattle.sys_server.specs.declared.command.Verdict.TheVariants.{Granted}
 use Rattle.vm_state.specs.State.{Guest}
 
 -- it leads to what f makes of the state
-abbrev pub Does : (f : SystemState → Went SystemState) (m : Machine) (k : Kernel) (lines : List Seen) (m' : Machine) (k' : Kernel) (lines' : List Seen) → Type 0
-Does f m k lines m' k' lines' = (volumes : List (List (List ℕ))) → Leads (f (kernel_state m.memory k volumes)) m k lines m' k' volumes lines'
+abbrev pub Does : (f : SystemState → Went SystemState) (before after : Scene) → Type 0
+Does f before after = (volumes : List (List (List ℕ))) → Leads (f (kernel_state before.machine.memory before.kernel volumes)) before after volumes
 
 -- it does so in every machine in which the kernel is, and leaves that as it was
 abbrev pub DoesAnywhere : (f : SystemState → Went SystemState) (k : Kernel) (lines : List Seen) (k' : Kernel) (lines' : List Seen) → Type 0
-DoesAnywhere f k lines k' lines' = (m : Machine) → IsKernel m.memory k → Does f m k lines m k' lines'
+DoesAnywhere f k lines k' lines' = (m : Machine) → IsKernel m.memory k → Does f (scene m k lines) (scene m k' lines')
 
 -- and the lines too
 abbrev pub DoesUnseen : (f : SystemState → Went SystemState) (k k' : Kernel) → Type 0
 DoesUnseen f k k' = (lines : List Seen) → DoesAnywhere f k lines k' lines
 
 -- a round's events, one after another, and one of them
-abbrev pub Happen : (round : ℕ) (es : List Event) (m : Machine) (k : Kernel) (lines : List Seen) (m' : Machine) (k' : Kernel) (lines' : List Seen) → Type 0
-Happen round es m k lines m' k' lines' = Does (λ s. events k.config round s es) m k lines m' k' lines'
+abbrev pub Happen : (round : ℕ) (es : List Event) (before after : Scene) → Type 0
+Happen round es before after = Does (λ s. events before.kernel.config round s es) before after
 
-abbrev pub Happens : (round : ℕ) (e : Event) (m : Machine) (k : Kernel) (lines : List Seen) (m' : Machine) (k' : Kernel) (lines' : List Seen) → Type 0
-Happens round e m k lines m' k' lines' = Does (λ s. happened k.config round s e) m k lines m' k' lines'
+abbrev pub Happens : (round : ℕ) (e : Event) (before after : Scene) → Type 0
+Happens round e before after = Does (λ s. happened before.kernel.config round s e) before after
+
+-- what is present of each guest has entries after as before, but for what the reset of a guest that starts, if one does, drops
+abbrev pub KeepsButReset : (starts : Option ℕ) (m' : Machine) (k k' : Kernel) → Type 0
+KeepsButReset starts m' k k' = KeepsAll (with_reset starts (guests_in m'.memory k'.guests.items)) k.guests.items k'.guests.items
 
 -- a break and a line at the terminal of a place
 abbrev pub break_at : Config → ℕ → ℕ → SystemState → Went SystemState

@@ -2,14 +2,16 @@
 use Rattle.std.specs.Prelude.{ℕ, List, [], ◌∷◌, ◌++◌, codes, map, Bool, not, is_some, Option, Some, None, slice_get, if◌then◌else◌}
 use Rattle.vv_class.specs.declared.class.AccessClass.{AccessClass}
 use Rattle.vv_class.specs.Class.{does_flow}
+use Rattle.sys_devices.specs.Shows.{Shows}
 use Rattle.sys_objects.specs.declared.records.Config.{Config}
 use Rattle.sys_objects.specs.declared.records.GuestRow.{GuestRow}
 use Rattle.sys_objects.specs.declared.records.Terminal.{Terminal}
 use Rattle.sys_state.specs.Events.{audit_puts, said_on}
-use Rattle.sys_state.specs.State.{Put}
+use Rattle.sys_state.specs.State.{Put, bytes_on}
 use Rattle.sys_server.specs.Replies.{with_line_end, object_text, reply_of, running_text, shown_lines, taken_text}
 use Rattle.sys_server.specs.declared.command.Verdict.{Verdict}
 use Rattle.vm_guest.specs.Kept.{Kept}
+use Rattle.vv_io.specs.Lines.{Seen}
 
 -- a text, in one put
 abbrev pub one_put : ℕ → List ℕ → List Put
@@ -18,6 +20,9 @@ one_put line text = record { line = line; bytes = text } ∷ []
 -- texts, in one put each
 abbrev pub puts_on : ℕ → List (List ℕ) → List Put
 puts_on line texts = map (λ text. record { line = line; bytes = text }) texts
+
+abbrev pub ShowsTexts : (marks marks' : List Bool) (lines lines' : List Seen) (line : ℕ) (texts : List (List ℕ)) → Type 0
+ShowsTexts marks marks' lines lines' line texts = Shows marks marks' lines lines' (λ k. bytes_on k (puts_on line texts))
 
 abbrev pub runs : Kept → Bool
 runs k = not (is_some k.state.halt)

@@ -48,7 +48,8 @@ pub fn answer<L: Lines>(
 )
     requires there { terminal < length config.now.terminals }
     requires terminals { All IsTerminal config.now.terminals }
-    ensures { Shows marks.old marks.new (L.lines lines.old) (L.lines lines.new) (λ k. bytes_on k (answers config.now (slice_get config.now.terminals terminal) verdict.now taken)) }
+    ensures { Shows marks.old marks.new (L.lines lines.old) (L.lines lines.new)
+        (λ k. bytes_on k (answers config.now (slice_get config.now.terminals terminal) verdict.now taken)) }
 {
     let row = terminal_at(config.terminals.as_slice(), terminal);
     say(marks, lines, row.line, reply(verdict).as_bytes());
@@ -68,7 +69,8 @@ pub fn put_audit<L: Lines>(
     requires there { terminal < length config.now.terminals }
     requires short { length text.now ≤ 1000 }
     requires audit { IfSome config.now.audit IsAudit }
-    ensures { Shows marks.old marks.new (L.lines lines.old) (L.lines lines.new) (λ k. bytes_on k (audits config.now round (slice_get config.now.terminals terminal) text.now verdict.now)) }
+    ensures { Shows marks.old marks.new (L.lines lines.old) (L.lines lines.new)
+        (λ k. bytes_on k (audits config.now round (slice_get config.now.terminals terminal) text.now verdict.now)) }
 {
     let row = terminal_at(config.terminals.as_slice(), terminal);
     if let Some(audit) = config.audit {

@@ -1,10 +1,9 @@
 ghost use Rattle.std.specs.Prelude.{◌<◌, ◌≤◌, ℕ, List, length};
-ghost use Rattle.sys_events.specs.Happens.{Does, DoesAnywhere, Happen, Happens, break_at, line_starts_at, typed_line_at};
-ghost use Rattle.sys_guests.specs.Kernel.{IsKernel, kernel_state};
-ghost use Rattle.sys_guests.specs.Layout.{guests_in};
+ghost use Rattle.sys_events.specs.Happens.{Does, DoesAnywhere, Happen, Happens, KeepsButReset, break_at, line_starts_at, typed_line_at};
+ghost use Rattle.sys_guests.specs.Kernel.{IsKernel, kernel_state, scene};
 ghost use Rattle.sys_guests.specs.Present.{KeepsAll};
 ghost use Rattle.sys_objects.specs.Condition.{IsConfig};
-ghost use Rattle.sys_state.specs.FirstTouches.{event_starts, touches_of_events, with_reset};
+ghost use Rattle.sys_state.specs.FirstTouches.{event_starts, touches_of_events};
 
 use crate::answering::say;
 use crate::commands::command;
@@ -39,8 +38,12 @@ fn take_line<H: Hardware, L: Lines>(
     requires holds { IsKernel (H.machine machine.old).memory kernel.old }
     requires there { terminal < length kernel.old.config.terminals }
     requires short { length text.now ≤ 1000 }
-    ensures does { Does (typed_line_at kernel.old.config round terminal text.now) (H.machine machine.old) kernel.old (L.lines lines.old) (H.machine machine.new) kernel.new (L.lines lines.new) }
-    ensures present { (volumes : List (List (List ℕ))) → KeepsAll (with_reset (line_starts_at kernel.old.config (kernel_state (H.machine machine.old).memory kernel.old volumes) terminal text.now) (guests_in (H.machine machine.new).memory kernel.new.guests.items)) kernel.old.guests.items kernel.new.guests.items }
+    ensures does { Does (typed_line_at kernel.old.config round terminal text.now)
+        (scene (H.machine machine.old) kernel.old (L.lines lines.old))
+        (scene (H.machine machine.new) kernel.new (L.lines lines.new)) }
+    ensures present { (volumes : List (List (List ℕ))) → KeepsButReset
+        (line_starts_at kernel.old.config (kernel_state (H.machine machine.old).memory kernel.old volumes) terminal
+        text.now) (H.machine machine.new) kernel.old kernel.new }
 {
     match kernel.server.at[terminal as usize] {
         Some(guest) => type_to(kernel, guest, text),
@@ -57,8 +60,11 @@ fn happen_one<H: Hardware, L: Lines>(
     event: &Event,
 )
     requires { IsKernel (H.machine machine.old).memory kernel.old }
-    ensures happens { Happens round event.now (H.machine machine.old) kernel.old (L.lines lines.old) (H.machine machine.new) kernel.new (L.lines lines.new) }
-    ensures present { (volumes : List (List (List ℕ))) → KeepsAll (with_reset (event_starts kernel.old.config (kernel_state (H.machine machine.old).memory kernel.old volumes) event.now) (guests_in (H.machine machine.new).memory kernel.new.guests.items)) kernel.old.guests.items kernel.new.guests.items }
+    ensures happens { Happens round event.now (scene (H.machine machine.old) kernel.old (L.lines lines.old))
+        (scene (H.machine machine.new) kernel.new (L.lines lines.new)) }
+    ensures present { (volumes : List (List (List ℕ))) → KeepsButReset
+        (event_starts kernel.old.config (kernel_state (H.machine machine.old).memory kernel.old volumes) event.now)
+        (H.machine machine.new) kernel.old kernel.new }
 {
     let place = terminal_named(kernel.config.terminals.as_slice(), &event.terminal);
     if let Some(terminal) = place {
@@ -80,8 +86,11 @@ pub fn happen<H: Hardware, L: Lines>(
     events: &[Event],
 )
     requires { IsKernel (H.machine machine.old).memory kernel.old }
-    ensures happen { Happen round events.now (H.machine machine.old) kernel.old (L.lines lines.old) (H.machine machine.new) kernel.new (L.lines lines.new) }
-    ensures present { (volumes : List (List (List ℕ))) → KeepsAll (touches_of_events kernel.old.config round (kernel_state (H.machine machine.old).memory kernel.old volumes) events.now) kernel.old.guests.items kernel.new.guests.items }
+    ensures happen { Happen round events.now (scene (H.machine machine.old) kernel.old (L.lines lines.old))
+        (scene (H.machine machine.new) kernel.new (L.lines lines.new)) }
+    ensures present { (volumes : List (List (List ℕ))) → KeepsAll
+        (touches_of_events kernel.old.config round (kernel_state (H.machine machine.old).memory kernel.old volumes)
+        events.now) kernel.old.guests.items kernel.new.guests.items }
 {
     for event in events {
         happen_one(machine, lines, kernel, round, event);

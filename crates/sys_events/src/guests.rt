@@ -1,12 +1,11 @@
 ghost use Rattle.std.specs.Prelude.{◌<◌, vec_len, length};
-ghost use Rattle.sys_events.specs.Happens.{Does, DoesAnywhere, DoesUnseen, guest_halted, guest_typed, guests_obeyed};
+ghost use Rattle.sys_events.specs.Happens.{Does, DoesAnywhere, DoesUnseen, KeepsButReset, guest_halted, guest_typed, guests_obeyed};
 ghost use Rattle.sys_events.specs.Seats.{Names};
-ghost use Rattle.sys_guests.specs.Kernel.{IsKernel};
-ghost use Rattle.sys_guests.specs.Layout.{guests_in};
+ghost use Rattle.sys_guests.specs.Kernel.{IsKernel, scene};
 ghost use Rattle.sys_guests.specs.Present.{KeepsAll};
 ghost use Rattle.sys_objects.specs.Condition.{IsConfig};
 ghost use Rattle.sys_server.specs.declared.command.Verdict.TheVariants.{Granted};
-ghost use Rattle.sys_state.specs.FirstTouches.{started_by, with_reset};
+ghost use Rattle.sys_state.specs.FirstTouches.{started_by};
 
 use crate::consoles::console_of;
 use crate::shows::show_objects;
@@ -49,8 +48,10 @@ pub fn act<H: Hardware, L: Lines>(
     requires holds { IsKernel (H.machine machine.old).memory kernel.old }
     requires there { terminal < length kernel.old.config.terminals }
     requires names { Names kernel.old.config command.now }
-    ensures does { Does (guests_obeyed kernel.old.config terminal command.now) (H.machine machine.old) kernel.old (L.lines lines.old) (H.machine machine.new) kernel.new (L.lines lines.new) }
-    ensures present { KeepsAll (with_reset (started_by (Granted command.now)) (guests_in (H.machine machine.new).memory kernel.new.guests.items)) kernel.old.guests.items kernel.new.guests.items }
+    ensures does { Does (guests_obeyed kernel.old.config terminal command.now)
+        (scene (H.machine machine.old) kernel.old (L.lines lines.old))
+        (scene (H.machine machine.new) kernel.new (L.lines lines.new)) }
+    ensures present { KeepsButReset (started_by (Granted command.now)) (H.machine machine.new) kernel.old kernel.new }
 {
     match *command {
         Command::Start(guest) => start_at(machine, &mut kernel.guests, guest),

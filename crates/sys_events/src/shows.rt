@@ -1,6 +1,6 @@
 ghost use Rattle.std.specs.Prelude.{◌≡◌, ◌<◌, [], ◌∷◌, All, filter, if◌then◌else◌, length, map, slice_get};
 ghost use Rattle.vv_class.specs.Class.{does_flow};
-ghost use Rattle.sys_events.specs.Saying.{guest_line, one_put, puts_on, runs, show_lines};
+ghost use Rattle.sys_events.specs.Saying.{ShowsTexts, guest_line, one_put, runs, show_lines};
 ghost use Rattle.sys_devices.specs.Shows.{Shows};
 ghost use Rattle.sys_objects.specs.Condition.{IsTerminal};
 ghost use Rattle.sys_state.specs.State.{bytes_on};
@@ -38,7 +38,7 @@ fn show_guest<L: Lines>(
     guest: &Guest,
 )
     requires { terminal.now.line < 32 }
-    ensures { Shows marks.old marks.new (L.lines lines.old) (L.lines lines.new) (λ k. bytes_on k (puts_on terminal.now.line (guest_line terminal.now.class row.now (runs guest.now)))) }
+    ensures { ShowsTexts marks.old marks.new (L.lines lines.old) (L.lines lines.new) terminal.now.line (guest_line terminal.now.class row.now (runs guest.now)) }
 {
     if flows(&row.class, &terminal.class) {
         put_text(
@@ -60,7 +60,8 @@ fn show_guests<L: Lines>(
 )
     requires there { terminal.now.line < 32 }
     requires beside { length guests.now ≡ length rows.now }
-    ensures { Shows marks.old marks.new (L.lines lines.old) (L.lines lines.new) (λ k. bytes_on k (puts_on terminal.now.line (guest_lines terminal.now.class rows.now (map runs guests.now)))) }
+    ensures { ShowsTexts marks.old marks.new (L.lines lines.old) (L.lines lines.new) terminal.now.line
+        (guest_lines terminal.now.class rows.now (map runs guests.now)) }
 {
     for (place, row) in rows.iter().enumerate() {
         show_guest(marks, lines, terminal, row, &guests[place]);
@@ -70,7 +71,8 @@ fn show_guests<L: Lines>(
 /// Puts SHOW's line of a volume, if the terminal sees it.
 fn show_volume<L: Lines>(marks: &mut Marks, lines: &mut L, terminal: &Terminal, row: &VolumeRow)
     requires { terminal.now.line < 32 }
-    ensures { Shows marks.old marks.new (L.lines lines.old) (L.lines lines.new) (λ k. bytes_on k (puts_on terminal.now.line (if does_flow row.now.class terminal.now.class then volume_line row.now ∷ [] else []))) }
+    ensures { ShowsTexts marks.old marks.new (L.lines lines.old) (L.lines lines.new) terminal.now.line
+        (if does_flow row.now.class terminal.now.class then volume_line row.now ∷ [] else []) }
 {
     if flows(&row.class, &terminal.class) {
         put_text(marks, lines, terminal.line, &volume_text(row));
@@ -80,7 +82,8 @@ fn show_volume<L: Lines>(marks: &mut Marks, lines: &mut L, terminal: &Terminal, 
 /// Puts SHOW's lines of the volumes that the terminal sees.
 fn show_volumes<L: Lines>(marks: &mut Marks, lines: &mut L, terminal: &Terminal, rows: &[VolumeRow])
     requires { terminal.now.line < 32 }
-    ensures { Shows marks.old marks.new (L.lines lines.old) (L.lines lines.new) (λ k. bytes_on k (puts_on terminal.now.line (map volume_line (filter (λ v. does_flow v.class terminal.now.class) rows.now)))) }
+    ensures { ShowsTexts marks.old marks.new (L.lines lines.old) (L.lines lines.new) terminal.now.line
+        (map volume_line (filter (λ v. does_flow v.class terminal.now.class) rows.now)) }
 {
     for row in rows {
         show_volume(marks, lines, terminal, row);
@@ -90,7 +93,8 @@ fn show_volumes<L: Lines>(marks: &mut Marks, lines: &mut L, terminal: &Terminal,
 /// Puts SHOW's line of a printer, if the terminal sees it.
 fn show_printer<L: Lines>(marks: &mut Marks, lines: &mut L, terminal: &Terminal, row: &PrinterRow)
     requires { terminal.now.line < 32 }
-    ensures { Shows marks.old marks.new (L.lines lines.old) (L.lines lines.new) (λ k. bytes_on k (puts_on terminal.now.line (if does_flow row.now.class terminal.now.class then printer_line row.now ∷ [] else []))) }
+    ensures { ShowsTexts marks.old marks.new (L.lines lines.old) (L.lines lines.new) terminal.now.line
+        (if does_flow row.now.class terminal.now.class then printer_line row.now ∷ [] else []) }
 {
     if flows(&row.class, &terminal.class) {
         put_text(marks, lines, terminal.line, &printer_text(row));
@@ -105,7 +109,8 @@ fn show_printers<L: Lines>(
     rows: &[PrinterRow],
 )
     requires { terminal.now.line < 32 }
-    ensures { Shows marks.old marks.new (L.lines lines.old) (L.lines lines.new) (λ k. bytes_on k (puts_on terminal.now.line (map printer_line (filter (λ p. does_flow p.class terminal.now.class) rows.now)))) }
+    ensures { ShowsTexts marks.old marks.new (L.lines lines.old) (L.lines lines.new) terminal.now.line
+        (map printer_line (filter (λ p. does_flow p.class terminal.now.class) rows.now)) }
 {
     for row in rows {
         show_printer(marks, lines, terminal, row);
@@ -123,7 +128,8 @@ pub fn show_objects<L: Lines>(
     requires there { terminal < length config.now.terminals }
     requires terminals { All IsTerminal config.now.terminals }
     requires beside { length guests.now ≡ length config.now.guests }
-    ensures { Shows marks.old marks.new (L.lines lines.old) (L.lines lines.new) (λ k. bytes_on k (show_lines config.now guests.now (slice_get config.now.terminals terminal))) }
+    ensures { Shows marks.old marks.new (L.lines lines.old) (L.lines lines.new)
+        (λ k. bytes_on k (show_lines config.now guests.now (slice_get config.now.terminals terminal))) }
 {
     let terminal = terminal_at(config.terminals.as_slice(), terminal);
     show_guests(marks, lines, terminal, config.guests.as_slice(), guests);

@@ -35,13 +35,22 @@ pub record IsKernel (memory : List ℕ) (k : Kernel) : Type 0 where
   pub beyond : All (λ o. o ≡ None) (drop (length k.config.terminals) k.server.at)
   pub mounts : All (AreUnits (length k.config.volumes)) k.server.mounts
 
+-- where the kernel works: the machine, its own parts, and the lines
+pub record Scene : Type 0 where
+  pub machine : Machine
+  pub kernel : Kernel
+  pub lines : List Seen
+
+abbrev pub scene : Machine → Kernel → List Seen → Scene
+scene m k lines = record { machine = m; kernel = k; lines = lines }
+
 -- The kernel's work leads to this state and shows these bytes. Nothing else of the machine changes but the guests' memories and
 -- their real tables.
-pub record Leads (w : Went SystemState) (m : Machine) (k : Kernel) (lines : List Seen) (m' : Machine) (k' : Kernel) (volumes' : List (List (List ℕ))) (lines' : List Seen) : Type 0 where
-  pub state : kernel_state m'.memory k' volumes' ≡ w.now
-  pub shows : Shows k.marks k'.marks lines lines' (λ line. bytes_on line w.puts)
-  pub holds : IsKernel m'.memory k'
-  pub config : k'.config ≡ k.config
-  pub machine : m' ≡ record m { memory = m'.memory }
-  pub only : OnlyGuests k.config.guests m.memory m'.memory
-  pub size : length m'.memory ≡ length m.memory
+pub record Leads (w : Went SystemState) (before after : Scene) (volumes' : List (List (List ℕ))) : Type 0 where
+  pub state : kernel_state after.machine.memory after.kernel volumes' ≡ w.now
+  pub shows : Shows before.kernel.marks after.kernel.marks before.lines after.lines (λ line. bytes_on line w.puts)
+  pub holds : IsKernel after.machine.memory after.kernel
+  pub config : after.kernel.config ≡ before.kernel.config
+  pub machine : after.machine ≡ record before.machine { memory = after.machine.memory }
+  pub only : OnlyGuests before.kernel.config.guests before.machine.memory after.machine.memory
+  pub size : length after.machine.memory ≡ length before.machine.memory

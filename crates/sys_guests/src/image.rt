@@ -33,7 +33,10 @@ pub fn load_image<H: Hardware>(machine: &mut H, base: u32, pages: u32, load: u32
     requires place { base + pages ≤ 65536 }
     requires inside { 512 * base + 512 * pages ≤ length (H.machine machine.old).memory }
     requires fits { load + length image.now ≤ 512 * pages }
-    ensures { H.machine machine.new ≡ record (H.machine machine.old) { memory = overwritten (H.machine machine.old).memory (512 * base) (memory_with_image (512 * pages) load image.now) } }
+    ensures { H.machine machine.new ≡ record (H.machine machine.old) {
+      memory = overwritten (H.machine machine.old).memory (512 * base)
+          (memory_with_image (512 * pages) load image.now);
+    } }
 {
     let first = 512 * base;
     for number in 0..128 * pages {

@@ -47,7 +47,8 @@ pub fn place_guest<H: Hardware>(
     requires fits { load + length image.now ≤ 512 * state.pages }
     requires allowed { AreAllowed (512 * state.pages) (state_of state) }
     requires pages { length (H.machine machine.old).memory ≡ 512 * 32768 }
-    ensures ok { IfOk result (PutsIn state tables (memory_with_image (512 * state.pages) load image.now) (H.machine machine.old).memory (H.machine machine.new).memory) }
+    ensures ok { IfOk result (PutsIn state tables (memory_with_image (512 * state.pages) load image.now)
+        (H.machine machine.old).memory (H.machine machine.new).memory) }
     ensures present { IfOk result HasFirst }
     ensures alone { MemoryAlone (H.machine machine.old) (H.machine machine.new) }
 {

@@ -30,8 +30,11 @@ pub fn advance_at<H: Hardware>(
     requires there { slice.guest < vec_len guests.old }
     requires few { slice.steps ≤ 100000 }
     requires stand { All (λ k. IsShadowedIn (H.machine machine.old).memory k) guests.old.items }
-    ensures advances { AdvancesOne (record { guest = slice.guest; steps = slice.steps }) (H.machine machine.old) guests.old.items (H.machine machine.new) guests.new.items port.new.bytes result }
-    ensures pays { PaysAll (touches_of_slice (record { guest = slice.guest; steps = slice.steps }) (guests_in (H.machine machine.old).memory guests.old.items)) (H.machine machine.old) guests.old.items (H.machine machine.new) guests.new.items }
+    ensures advances { AdvancesOne (record { guest = slice.guest; steps = slice.steps })
+        (H.machine machine.old) guests.old.items (H.machine machine.new) guests.new.items port.new.bytes result }
+    ensures pays { PaysAll (touches_of_slice (record { guest = slice.guest; steps = slice.steps })
+        (guests_in (H.machine machine.old).memory guests.old.items)) (H.machine machine.old) guests.old.items
+        (H.machine machine.new) guests.new.items }
 {
     port.clear();
     let guest = &mut guests[slice.guest as usize];
@@ -47,8 +50,11 @@ pub fn step_at<H: Hardware>(
 ) -> Once
     requires there { place < vec_len guests.old }
     requires stand { All (λ k. IsShadowedIn (H.machine machine.old).memory k) guests.old.items }
-    ensures advances { AdvancesOne (record { guest = place; steps = 1 }) (H.machine machine.old) guests.old.items (H.machine machine.new) guests.new.items port.new.bytes result.counts }
-    ensures pays { PaysAll (touches_of_slice (record { guest = place; steps = 1 }) (guests_in (H.machine machine.old).memory guests.old.items)) (H.machine machine.old) guests.old.items (H.machine machine.new) guests.new.items }
+    ensures advances { AdvancesOne (record { guest = place; steps = 1 }) (H.machine machine.old) guests.old.items
+        (H.machine machine.new) guests.new.items port.new.bytes result.counts }
+    ensures pays { PaysAll (touches_of_slice (record { guest = place; steps = 1 })
+        (guests_in (H.machine machine.old).memory guests.old.items)) (H.machine machine.old) guests.old.items
+        (H.machine machine.new) guests.new.items }
     ensures note { IfSome (slice_get (guests_in (H.machine machine.old).memory guests.old.items) place) (λ g. result.note ≡ note_of g) }
 {
     port.clear();

@@ -185,11 +185,11 @@ module _ (m : Moment) (es fs : List Event) (n : ℕ) (marks marks1 marks2 : List
       ∙ still_taken (slice_index_or marks k false) (slice_index_or marks1 k false) (slice_index_or marks2 k false) (at lines k) (at lines1 k) (at lines2 k) (shown_from m es n k) (bytes k) (shown_from m es j k) (first.line k) (second.line k) told (shown_within m es k j n low)
 
   -- what is shown of the first rounds is the same later
-  pub echo_earlier : AreSeen m.config.terminals lines2 → echo_rounds now m es n ≡ echo_rounds later m fs n
-  echo_earlier are = sym (echo_alike later now m fs es n (λ i low. λ k d within.
+  pub echo_earlier : (made : ℕ) → made ≤ n → AreSeen m.config.terminals lines2 → echo_rounds now m es made ≡ echo_rounds later m fs made
+  echo_earlier made few are = sym (echo_alike later now m fs es made (λ i low. λ k d within.
       let line = (slice_index_or m.config.terminals k d).line in
-      let begun = same_taken line i (are k d within) (omega (arith, low)) in
-      let ended = same_taken line (suc i) (are k d within) (omega (arith, low)) in
+      let begun = same_taken line i (are k d within) (omega (arith, low, few)) in
+      let ended = same_taken line (suc i) (are k d within) (omega (arith, low, few)) in
       λ j. drop (length (begun j)) (ended j)))
 
   module _ (whole : Shows marks marks2 lines lines2 (λ k. shown_from m fs (suc n) k)) where

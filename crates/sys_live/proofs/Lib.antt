@@ -1,3 +1,4 @@
+pub mod Asking
 pub mod Echoing
 pub mod Joining
 pub mod Lines

@@ -27,7 +27,7 @@ use Rattle.sys_state.specs.Run.{Input, Moment, first_moment}
 use Rattle.sys_runs.proofs.Whole.{made_at_once}
 use Rattle.sys_runs.specs.Ran.{RunOutside}
 use Rattle.sys_runs.specs.declared.running.Ran.{Ran}
-use Rattle.sys_script.specs.Typed.{MeansTyped, events_typed, rounds_typed}
+use Rattle.sys_script.specs.Typed.{MeansTyped, events_typed, rounds_ended, rounds_typed}
 use Rattle.sys_script.specs.declared.event.Event.{Event}
 use Rattle.sys_system.specs.Calls.{PowersDown}
 use Rattle.sys_system.specs.Devices.{first_failed}
@@ -35,6 +35,7 @@ use Rattle.sys_system.specs.Faults.{HasPower}
 use Rattle.sys_system.specs.System.{IsSystem, System, moment_of}
 use Rattle.vm_state.specs.State.{Guest}
 use Rattle.vm_stepping.specs.Made.{steps_in}
+use Rattle.sys_live.proofs.Asking.{still_in_order, still_known}
 use Rattle.sys_live.proofs.Echoing.{at, echo_alike, more}
 use Rattle.sys_live.specs.Lives.{AreSeen, Lives}
 use Rattle.sys_live.specs.Made.{MakesTyped}
@@ -124,6 +125,10 @@ run_lived c images most went ran rounds p out out' m0 m1 m2 s0 s1 s2 lines lines
     let begins : moment_of m1.memory s0 ≡ m = λ i. record { config = config0 i; made = rounds0 i; state = power.powered.state i } in
     let gs : List Guest = guests_in m2.memory s1.guests in
     let dumps : Shows s1.marks s2.marks lines1 lines2 (λ k. dump_on k c.guests gs) = subst (λ (y : Config). Shows s1.marks s2.marks lines1 lines2 (λ k. dump_on k y.guests gs)) config1 down.shows in
+    let before : ℕ → List ℕ = echo_rounds (more_on lines lines1) (moment_of m1.memory s0) es in
+    let after : ℕ → List ℕ = echo_rounds (more_on lines lines2) m es in
+    let earlier : AreSeen c.terminals lines2 → AreSeen s0.config.terminals lines1 = λ seen. subst (λ (y : Config). AreSeen y.terminals lines1) (sym config0) (seen_before c accepted s1.marks s2.marks lines lines1 lines2 gs dumps seen) in
+    let same : (j : ℕ) → AreSeen c.terminals lines2 → before j ≡ after j = λ j seen. ap (λ (k : Moment). echo_rounds (more_on lines lines1) k es j) begins ∙ echo_kept c accepted s1.marks s2.marks lines lines1 lines2 gs dumps m es j refl in
     record {
       makes = made_at_once c images m1 s0 drives drives1 power es n m0 m2 s1 s2 lines lines1 lines2 drives2 accepted alone t.makes down present ran holds counts failed lines_size drives_size;
       typed = t.typed;
@@ -135,13 +140,8 @@ run_lived c images most went ran rounds p out out' m0 m1 m2 s0 s1 s2 lines lines
       made = omega (arith, made, rounds0, rounds1);
       cut = t.cut;
       told = t.told;
-      echoed = t.echoed;
-      shown = t.shown;
-      exact = λ seen.
-          let before : AreSeen c.terminals lines1 = seen_before c accepted s1.marks s2.marks lines lines1 lines2 gs dumps seen in
-          t.exact (subst (λ (y : Config). AreSeen y.terminals lines1) (sym config0) before)
-          ∙ ap (λ (k : Moment). echo_rounds (more_on lines lines1) k es n) begins
-          ∙ echo_kept c accepted s1.marks s2.marks lines lines1 lines2 gs dumps m es n refl;
+      shown = still_known went.is_cut (AreSeen s0.config.terminals lines1) (AreSeen c.terminals lines2) (before n) (after n) out out' earlier (same n) t.shown;
+      asked = still_in_order (AreSeen s0.config.terminals lines1) (AreSeen c.terminals lines2) before after out went.typing (rounds_ended t.typed) t.typed p.keys p.keys' earlier (λ j low. same j) (omega arith) t.asked;
     }
 
 -- its steps are few

@@ -1,5 +1,5 @@
 -- The lines of a round that have been taken, and what each further one results in.
-use Rattle.std.proofs.Common.{◌≡◌, ◌≢◌, ◌≤◌, ◌+◌, ◌-◌, ◌^◌, ◌==◌, ℕ, List, [], ◌∷◌, ◌++◌, length, map, Bool, true, false, Option, Some, None, Result, Ok, Err, if◌then◌else◌, All, inl, inr, refl, sym, ◌∙◌, ap, subst, arith, append_assoc, append-nil, length-append}
+use Rattle.std.proofs.Common.{◌≡◌, ◌≢◌, ◌<◌, ◌≤◌, ◌+◌, ◌-◌, ◌^◌, ◌==◌, ℕ, List, [], ◌∷◌, ◌++◌, length, map, min, Bool, true, false, Option, Some, None, Result, Ok, Err, if◌then◌else◌, All, inl, inr, refl, sym, ◌∙◌, ap, subst, arith, append_assoc, append-nil, length-append}
 use Rattle.std.proofs.lemmas.Bool.Decides.{nat_tests}
 use Rattle.std.proofs.lemmas.List.{map-append}
 use Rattle.std.proofs.lemmas.List.Elements.{All-cons, All-head, All-nil, All-push, All-same, All-tail}
@@ -15,8 +15,10 @@ use Rattle.sys_script.specs.declared.event.ScriptKind.{ScriptKind}
 use Rattle.sys_script.specs.declared.event.ScriptKind.TheVariants.{BadEvent, BadName, BadText}
 use Rattle.sys_script.specs.declared.event.Typed.{Typed}
 use Rattle.sys_system.specs.Calls.{AreOf}
+use Rattle.sys_live.proofs.Asking.{none_asked, one_asked}
 use Rattle.sys_live.proofs.Words.{tells_both, tells_none}
 use Rattle.sys_live.specs.Operator.{Operator}
+use Rattle.sys_live.specs.Order.{AsksWhile}
 use Rattle.sys_devices.specs.Shows.{ShowsUnlessMarked}
 use Rattle.sys_live.specs.Typing.{EndsTypedRound, TookWell, TypesRound}
 use Rattle.sys_live.specs.declared.typing.Count.{Count}
@@ -115,26 +117,27 @@ took_all E lines (Some coming) None after (first, rest, is, same, now) gives = a
 took_all E lines (Some coming) (Some []) after (first, rest, is, same, now) gives = ((first, rest, is, same, gives ∙ now), subst IsOut (sym gives) refl)
 took_all E lines (Some coming) (Some (next ∷ more)) after (first, rest, is, same, now) gives = absurd gives
 
-takes_more : {E : Type 0} (lines : List (List ℕ)) (line : List ℕ) (before now after : Keys) → TookWell lines before now → (let r : Result (Option (List ℕ)) E = Ok (Some line) in Takes now after r) → TookWell (lines ++ line ∷ []) before after
-takes_more {E} lines line before now after took takes = record {
+takes_more : {E : Type 0} (lines : List (List ℕ)) (line : List ℕ) (out : Seen) (before now after : Keys) → TookWell lines before now → (let r : Result (Option (List ℕ)) E = Ok (Some line) in Takes out now after r) → TookWell (lines ++ line ∷ []) before after
+takes_more {E} lines line out before now after took takes = record {
   took = took_more E lines line before.coming now.coming after.coming took.took takes.gives;
   faults = takes.cause.kept ∙ took.faults;
 }
 
-takes_none : {E : Type 0} (lines : List (List ℕ)) (before now after : Keys) → TookWell lines before now → (let r : Result (Option (List ℕ)) E = Ok None in Takes now after r) → TookWell lines before after × IsOut after.coming
-takes_none {E} lines before now after took takes =
+takes_none : {E : Type 0} (lines : List (List ℕ)) (out : Seen) (before now after : Keys) → TookWell lines before now → (let r : Result (Option (List ℕ)) E = Ok None in Takes out now after r) → TookWell lines before after × IsOut after.coming
+takes_none {E} lines out before now after took takes =
     let all : Took lines before.coming after.coming × IsOut after.coming = took_all E lines before.coming now.coming after.coming took.took takes.gives in
     (record { took = all.0; faults = takes.cause.kept ∙ took.faults }, all.1)
 
-takes_fault : {E : Type 0} (lines : List (List ℕ)) (before now after : Keys) (e : E) → TookWell lines before now → (let r : Result (Option (List ℕ)) E = Err e in Takes now after r) → Took lines before.coming after.coming × Rose before.faults after.faults
-takes_fault lines before now after e took takes =
+takes_fault : {E : Type 0} (lines : List (List ℕ)) (out : Seen) (before now after : Keys) (e : E) → TookWell lines before now → (let r : Result (Option (List ℕ)) E = Err e in Takes out now after r) → Took lines before.coming after.coming × Rose before.faults after.faults
+takes_fault lines out before now after e took takes =
     (subst (Took lines before.coming) (sym takes.gives) took.took, subst (λ n. Rose n after.faults) took.faults takes.cause.failed)
 
 -- The lines that were taken of a round that goes on, and their events.
-pub record TypesSoFar (round : ℕ) (before now : Count) (events : List Event) (keys keys' : Keys) (errors errors' : Seen) : Type 0 where
+pub record TypesSoFar (round : ℕ) (out : Seen) (before now : Count) (events : List Event) (keys keys' : Keys) (errors errors' : Seen) : Type 0 where
   pub lines : List (List ℕ)
   pub none_is_empty : All IsFull lines
   pub taken : TookWell lines keys keys'
+  pub asked : AsksWhile (length lines) out keys keys'
   pub counts : now.lines ≡ before.lines + length lines
   pub events_are : events ≡ events_typed round lines
   pub told : ShowsUnlessMarked before.is_cut now.is_cut errors errors' (refusal_messages (before.lines + 1) lines)
@@ -143,28 +146,30 @@ no_line : (keys : Option (List (List ℕ))) → Took [] keys keys
 no_line None = refl
 no_line (Some coming) = ([], coming, refl, refl, refl)
 
-pub begins : (round : ℕ) (before : Count) (keys : Keys) (errors : Seen) → TypesSoFar round before before [] keys keys errors errors
-begins round before keys errors = record {
+pub begins : (round : ℕ) (out : Seen) (before : Count) (keys : Keys) (errors : Seen) → TypesSoFar round out before before [] keys keys errors errors
+begins round out before keys errors = record {
   lines = [];
   none_is_empty = All-nil IsFull;
   taken = record { took = no_line keys.coming; faults = refl };
+  asked = none_asked out keys;
   counts = omega arith;
   events_are = refl;
   told = tells_none before.is_cut errors;
 }
 
 -- a line that isn't empty was taken
-pub goes_on : {E : Type 0} (round : ℕ) (before now after : Count) (events more : List Event) (line : List ℕ) (keys keys1 keys2 : Keys) (errors errors1 errors2 : Seen) →
-    TypesSoFar round before now events keys keys1 errors errors1 → IsFull line → (let r : Result (Option (List ℕ)) E = Ok (Some line) in Takes keys1 keys2 r) →
+pub goes_on : {E : Type 0} (round : ℕ) (out : Seen) (before now after : Count) (events more : List Event) (line : List ℕ) (keys keys1 keys2 : Keys) (errors errors1 errors2 : Seen) →
+    TypesSoFar round out before now events keys keys1 errors errors1 → IsFull line → (let r : Result (Option (List ℕ)) E = Ok (Some line) in Takes out keys1 keys2 r) →
     more ≡ events ++ if_said (typed_in round line) [] → ShowsUnlessMarked now.is_cut after.is_cut errors1 errors2 (refusal_message (now.lines + 1) line) → after.lines ≡ now.lines + 1 →
-    TypesSoFar round before after more keys keys2 errors errors2
-goes_on {E} round before now after events more line keys keys1 keys2 errors errors1 errors2 far full takes said tells counts =
+    TypesSoFar round out before after more keys keys2 errors errors2
+goes_on {E} round out before now after events more line keys keys1 keys2 errors errors1 errors2 far full takes said tells counts =
     let number : now.lines + 1 ≡ before.lines + 1 + length far.lines = omega (arith, far.counts) in
     let long : length (far.lines ++ line ∷ []) ≡ length far.lines + 1 = length-append far.lines (line ∷ []) in
     record {
       lines = far.lines ++ line ∷ [];
       none_is_empty = All-push IsFull far.lines line far.none_is_empty full;
-      taken = takes_more {E = E} far.lines line keys keys1 keys2 far.taken takes;
+      taken = takes_more {E = E} far.lines line out keys keys1 keys2 far.taken takes;
+      asked = subst (λ n. AsksWhile n out keys keys2) (sym long) (one_asked (length far.lines) out keys keys1 keys2 far.asked takes.noted);
       counts = omega (arith, counts, far.counts, long);
       events_are = said ∙ ap (λ es. es ++ if_said (typed_in round line) []) far.events_are ∙ sym (events_more round far.lines line far.none_is_empty full);
       told =
@@ -173,10 +178,10 @@ goes_on {E} round before now after events more line keys keys1 keys2 errors erro
           (subst (λ n. ShowsUnlessMarked now.is_cut after.is_cut errors1 errors2 (refusal_message n line)) number tells));
     }
 
-pub far_each : {round : ℕ} {before now : Count} {events : List Event} {keys keys1 : Keys} {errors errors1 : Seen} → TypesSoFar round before now events keys keys1 errors errors1 → 1 ≤ round → round ≤ 1000000 → All IsEvent events
+pub far_each : {round : ℕ} {out : Seen} {before now : Count} {events : List Event} {keys keys1 : Keys} {errors errors1 : Seen} → TypesSoFar round out before now events keys keys1 errors errors1 → 1 ≤ round → round ≤ 1000000 → All IsEvent events
 far_each {round} {events = events} far from to = All-same IsEvent events (events_typed round far.lines) far.events_are (each_is round far.lines from to far.none_is_empty)
 
-pub far_of : {round : ℕ} {before now : Count} {events : List Event} {keys keys1 : Keys} {errors errors1 : Seen} → TypesSoFar round before now events keys keys1 errors errors1 → 1 ≤ round → round ≤ 1000000 → AreOf round events
+pub far_of : {round : ℕ} {out : Seen} {before now : Count} {events : List Event} {keys keys1 : Keys} {errors errors1 : Seen} → TypesSoFar round out before now events keys keys1 errors errors1 → 1 ≤ round → round ≤ 1000000 → AreOf round events
 far_of {round} {events = events} far from to = All-same (λ e. e.round ≡ round) events (events_typed round far.lines) far.events_are (each_of round far.lines from to far.none_is_empty)
 
 -- How a round ends after such lines.
@@ -184,29 +189,35 @@ abbrev pub desk : Keys → Keys → Seen → Seen → Operator
 desk keys keys' errors errors' = record { keys = keys; keys' = keys'; errors = errors; errors' = errors' }
 
 -- an empty line was taken
-pub is_ended : {E : Type 0} (round : ℕ) (before now after : Count) (typed : TypedRound) (line : List ℕ) (keys keys1 keys2 : Keys) (errors errors1 errors2 : Seen) →
-    TypesSoFar round before now typed.events.items keys keys1 errors errors1 → line ≡ [] → (let r : Result (Option (List ℕ)) E = Ok (Some line) in Takes keys1 keys2 r) →
-    after.lines ≡ now.lines + 1 → after.is_cut ≡ now.is_cut → errors2 ≡ errors1 → typed.typing ≡ GoesOn → TypesRound round before after typed (desk keys keys2 errors errors2)
-is_ended {E} round before now after typed line keys keys1 keys2 errors errors1 errors2 far empty takes counts cut same typing =
-    let all : TookWell (far.lines ++ line ∷ []) keys keys2 = takes_more {E = E} far.lines line keys keys1 keys2 far.taken takes in
+pub is_ended : {E : Type 0} (round : ℕ) (out : Seen) (before now after : Count) (typed : TypedRound) (line : List ℕ) (keys keys1 keys2 : Keys) (errors errors1 errors2 : Seen) →
+    TypesSoFar round out before now typed.events.items keys keys1 errors errors1 → now.lines < 2 ^ 32 - 1 → line ≡ [] → (let r : Result (Option (List ℕ)) E = Ok (Some line) in Takes out keys1 keys2 r) →
+    after.lines ≡ now.lines + 1 → after.is_cut ≡ now.is_cut → errors2 ≡ errors1 → typed.typing ≡ GoesOn → TypesRound round out before after typed (desk keys keys2 errors errors2)
+is_ended {E} round out before now after typed line keys keys1 keys2 errors errors1 errors2 far low empty takes counts cut same typing =
+    let all : TookWell (far.lines ++ line ∷ []) keys keys2 = takes_more {E = E} far.lines line out keys keys1 keys2 far.taken takes in
     record {
       lines = far.lines;
       none_is_empty = far.none_is_empty;
       taken = subst (λ t. EndsTypedRound t (before.lines + length far.lines) far.lines keys keys2) (sym typing) (subst (λ l. TookWell (far.lines ++ l ∷ []) keys keys2) empty all);
-      counts = λ _. omega (arith, counts, far.counts);
+      counts = λ _. (omega (arith, counts, far.counts), omega (arith, counts, low));
+      asks = length far.lines + 1;
+      asked = one_asked (length far.lines) out keys keys1 keys2 far.asked takes.noted;
+      asks_are = omega (arith, far.counts, low);
       events = far.events_are;
       told = subst (λ b. ShowsUnlessMarked before.is_cut b errors errors2 (refusal_messages (before.lines + 1) far.lines)) (sym cut) (subst (λ s. ShowsUnlessMarked before.is_cut now.is_cut errors s (refusal_messages (before.lines + 1) far.lines)) (sym same) far.told);
     }
 
 -- no more lines come
-pub is_over : {E : Type 0} (round : ℕ) (before now : Count) (typed : TypedRound) (keys keys1 keys2 : Keys) (errors errors1 : Seen) →
-    TypesSoFar round before now typed.events.items keys keys1 errors errors1 → (let r : Result (Option (List ℕ)) E = Ok None in Takes keys1 keys2 r) → typed.typing ≡ Over →
-    TypesRound round before now typed (desk keys keys2 errors errors1)
-is_over {E} round before now typed keys keys1 keys2 errors errors1 far takes typing = record {
+pub is_over : {E : Type 0} (round : ℕ) (out : Seen) (before now : Count) (typed : TypedRound) (keys keys1 keys2 : Keys) (errors errors1 : Seen) →
+    TypesSoFar round out before now typed.events.items keys keys1 errors errors1 → now.lines < 2 ^ 32 - 1 → (let r : Result (Option (List ℕ)) E = Ok None in Takes out keys1 keys2 r) → typed.typing ≡ Over →
+    TypesRound round out before now typed (desk keys keys2 errors errors1)
+is_over {E} round out before now typed keys keys1 keys2 errors errors1 far low takes typing = record {
   lines = far.lines;
   none_is_empty = far.none_is_empty;
-  taken = subst (λ t. EndsTypedRound t (before.lines + length far.lines) far.lines keys keys2) (sym typing) (takes_none {E = E} far.lines keys keys1 keys2 far.taken takes);
+  taken = subst (λ t. EndsTypedRound t (before.lines + length far.lines) far.lines keys keys2) (sym typing) (takes_none {E = E} far.lines out keys keys1 keys2 far.taken takes);
   counts = λ goes. absurd cc;
+  asks = length far.lines + 1;
+  asked = one_asked (length far.lines) out keys keys1 keys2 far.asked takes.noted;
+  asks_are = omega (arith, far.counts, low);
   events = far.events_are;
   told = far.told;
 }
@@ -218,34 +229,39 @@ lost_ends : Lost ≡ GoesOn → ⊥
 lost_ends e = absurd cc
 
 -- it ends so, and nothing more is reported
-ends_so : (t : Typing) → (t ≡ GoesOn → ⊥) → (round : ℕ) (before now after : Count) (typed : TypedRound) (keys keys1 keys2 : Keys) (errors errors1 errors2 : Seen) →
-    (far : TypesSoFar round before now typed.events.items keys keys1 errors errors1) → EndsTypedRound t (before.lines + length far.lines) far.lines keys keys2 → after.is_cut ≡ now.is_cut → errors2 ≡ errors1 → typed.typing ≡ t →
-    TypesRound round before after typed (desk keys keys2 errors errors2)
-ends_so t stays round before now after typed keys keys1 keys2 errors errors1 errors2 far ends cut same typing = record {
+ends_so : (t : Typing) → (t ≡ GoesOn → ⊥) → (round : ℕ) (out : Seen) (before now after : Count) (typed : TypedRound) (keys keys1 keys2 : Keys) (errors errors1 errors2 : Seen) →
+    (far : TypesSoFar round out before now typed.events.items keys keys1 errors errors1) → (asks : ℕ) → AsksWhile asks out keys keys2 → before.lines + asks ≡ min (before.lines + length far.lines + 1) (2 ^ 32 - 1) → EndsTypedRound t (before.lines + length far.lines) far.lines keys keys2 → after.is_cut ≡ now.is_cut → errors2 ≡ errors1 → typed.typing ≡ t →
+    TypesRound round out before after typed (desk keys keys2 errors errors2)
+ends_so t stays round out before now after typed keys keys1 keys2 errors errors1 errors2 far asks asked counts ends cut same typing = record {
   lines = far.lines;
   none_is_empty = far.none_is_empty;
   taken = subst (λ u. EndsTypedRound u (before.lines + length far.lines) far.lines keys keys2) (sym typing) ends;
   counts = λ goes. absurd (stays (sym typing ∙ goes));
+  asks = asks;
+  asked = asked;
+  asks_are = counts;
   events = far.events_are;
   told = subst (λ b. ShowsUnlessMarked before.is_cut b errors errors2 (refusal_messages (before.lines + 1) far.lines)) (sym cut) (subst (λ s. ShowsUnlessMarked before.is_cut now.is_cut errors s (refusal_messages (before.lines + 1) far.lines)) (sym same) far.told);
 }
 
 -- the keyboard failed
-pub is_failed : {E : Type 0} (round : ℕ) (before now : Count) (typed : TypedRound) (keys keys1 keys2 : Keys) (errors errors1 : Seen) (e : E) →
-    TypesSoFar round before now typed.events.items keys keys1 errors errors1 → (let r : Result (Option (List ℕ)) E = Err e in Takes keys1 keys2 r) → typed.typing ≡ Broken →
-    TypesRound round before now typed (desk keys keys2 errors errors1)
-is_failed {E} round before now typed keys keys1 keys2 errors errors1 e far takes typing =
-    ends_so Broken broken_ends round before now now typed keys keys1 keys2 errors errors1 errors1 far (inl (takes_fault {E = E} far.lines keys keys1 keys2 e far.taken takes)) refl refl typing
+pub is_failed : {E : Type 0} (round : ℕ) (out : Seen) (before now : Count) (typed : TypedRound) (keys keys1 keys2 : Keys) (errors errors1 : Seen) (e : E) →
+    TypesSoFar round out before now typed.events.items keys keys1 errors errors1 → now.lines < 2 ^ 32 - 1 → (let r : Result (Option (List ℕ)) E = Err e in Takes out keys1 keys2 r) → typed.typing ≡ Broken →
+    TypesRound round out before now typed (desk keys keys2 errors errors1)
+is_failed {E} round out before now typed keys keys1 keys2 errors errors1 e far low takes typing =
+    ends_so Broken broken_ends round out before now now typed keys keys1 keys2 errors errors1 errors1 far (length far.lines + 1) (one_asked (length far.lines) out keys keys1 keys2 far.asked takes.noted) (omega (arith, far.counts, low))
+    (inl (takes_fault {E = E} far.lines out keys keys1 keys2 e far.taken takes)) refl refl typing
 
 -- no more lines are counted
-pub is_counted : (round : ℕ) (before now : Count) (typed : TypedRound) (keys keys1 : Keys) (errors errors1 : Seen) →
-    TypesSoFar round before now typed.events.items keys keys1 errors errors1 → now.lines ≡ 2 ^ 32 - 1 → typed.typing ≡ Broken → TypesRound round before now typed (desk keys keys1 errors errors1)
-is_counted round before now typed keys keys1 errors errors1 far last typing =
-    ends_so Broken broken_ends round before now now typed keys keys1 keys1 errors errors1 errors1 far (inr (far.taken, sym far.counts ∙ last)) refl refl typing
+pub is_counted : (round : ℕ) (out : Seen) (before now : Count) (typed : TypedRound) (keys keys1 : Keys) (errors errors1 : Seen) →
+    TypesSoFar round out before now typed.events.items keys keys1 errors errors1 → now.lines ≡ 2 ^ 32 - 1 → typed.typing ≡ Broken → TypesRound round out before now typed (desk keys keys1 errors errors1)
+is_counted round out before now typed keys keys1 errors errors1 far last typing =
+    ends_so Broken broken_ends round out before now now typed keys keys1 keys1 errors errors1 errors1 far (length far.lines) far.asked (omega (arith, far.counts, last)) (inr (far.taken, sym far.counts ∙ last)) refl refl typing
 
 -- memory ran out for a line that says an event
-pub is_lost : {E : Type 0} (round : ℕ) (before now after : Count) (typed : TypedRound) (line : List ℕ) (keys keys1 keys2 : Keys) (errors errors1 errors2 : Seen) →
-    TypesSoFar round before now typed.events.items keys keys1 errors errors1 → says_event line ≡ true → (let r : Result (Option (List ℕ)) E = Ok (Some line) in Takes keys1 keys2 r) →
-    after.is_cut ≡ now.is_cut → errors2 ≡ errors1 → typed.typing ≡ Lost → TypesRound round before after typed (desk keys keys2 errors errors2)
-is_lost {E} round before now after typed line keys keys1 keys2 errors errors1 errors2 far says takes cut same typing =
-    ends_so Lost lost_ends round before now after typed keys keys1 keys2 errors errors1 errors2 far (line, says, takes_more {E = E} far.lines line keys keys1 keys2 far.taken takes) cut same typing
+pub is_lost : {E : Type 0} (round : ℕ) (out : Seen) (before now after : Count) (typed : TypedRound) (line : List ℕ) (keys keys1 keys2 : Keys) (errors errors1 errors2 : Seen) →
+    TypesSoFar round out before now typed.events.items keys keys1 errors errors1 → now.lines < 2 ^ 32 - 1 → says_event line ≡ true → (let r : Result (Option (List ℕ)) E = Ok (Some line) in Takes out keys1 keys2 r) →
+    after.is_cut ≡ now.is_cut → errors2 ≡ errors1 → typed.typing ≡ Lost → TypesRound round out before after typed (desk keys keys2 errors errors2)
+is_lost {E} round out before now after typed line keys keys1 keys2 errors errors1 errors2 far low says takes cut same typing =
+    ends_so Lost lost_ends round out before now after typed keys keys1 keys2 errors errors1 errors2 far (length far.lines + 1) (one_asked (length far.lines) out keys keys1 keys2 far.asked takes.noted) (omega (arith, far.counts, low))
+    (line, says, takes_more {E = E} far.lines line out keys keys1 keys2 far.taken takes) cut same typing

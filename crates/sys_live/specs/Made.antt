@@ -11,6 +11,7 @@ use Rattle.sys_script.specs.Typed.{events_typed, refusal_messages, rounds_typed}
 use Rattle.sys_system.specs.System.{System, moment_of}
 use Rattle.sys_live.specs.Lives.{AreSeen}
 use Rattle.sys_live.specs.Operator.{Operator}
+use Rattle.sys_live.specs.Order.{AsksInOrder, HasShown}
 use Rattle.sys_live.specs.Typing.{EndsTypedRun}
 use Rattle.sys_live.specs.declared.session.Went.{Went}
 
@@ -28,7 +29,8 @@ GoesOnShowing true cut' lines screens screens' out out' = (cut' ≡ true) × (sc
 GoesOnShowing false cut' lines screens screens' out out' = ShowsNews cut' lines screens screens' out out'
 
 -- Lines were typed, and the rounds that they make were made with their events. Why lines say no event was reported, and what the
--- terminals were shown, where that is known, was shown to the operator; both are whole or cut.
+-- terminals were shown, where that is known, was shown to the operator; both are whole or cut. Each line was asked for when the
+-- rounds before it were shown.
 pub record MakesTyped (most : ℕ) (went : Went) (p : Operator) (out out' : Seen) (m : Machine) (s : System) (lines : List Seen) (m' : Machine) (s' : System) (lines' : List Seen) : Type 0 where
   pub typed : List (List ℕ)
   pub ends : EndsTypedRun went.typing most typed p.keys p.keys'
@@ -36,6 +38,5 @@ pub record MakesTyped (most : ℕ) (went : Went) (p : Operator) (out out' : Seen
   pub makes : MakesRounds (rounds_typed false typed) (events_typed 1 typed) m s lines m' s' lines'
   pub cut : Bool
   pub told : ShownSince cut p.errors p.errors' (refusal_messages 1 typed)
-  pub echoed : List ℕ
-  pub shown : ShownSince went.is_cut out out' echoed
-  pub exact : AreSeen s.config.terminals lines' → echoed ≡ echo_rounds (more_on lines lines') (moment_of m.memory s) (events_typed 1 typed) (rounds_typed false typed)
+  pub shown : HasShown went.is_cut (AreSeen s.config.terminals lines') (echo_rounds (more_on lines lines') (moment_of m.memory s) (events_typed 1 typed) (rounds_typed false typed)) out out'
+  pub asked : AsksInOrder (AreSeen s.config.terminals lines') (echo_rounds (more_on lines lines') (moment_of m.memory s) (events_typed 1 typed)) out went.typing typed p.keys p.keys'

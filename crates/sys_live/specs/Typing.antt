@@ -1,10 +1,12 @@
 -- How lines are taken from a keyboard, and how that ends.
-use Rattle.std.specs.Prelude.{ℕ, ◌≡◌, ◌≢◌, ◌<◌, ◌+◌, ◌-◌, ◌^◌, ◌⊎◌, List, [], ◌∷◌, ◌++◌, All, true, length}
+use Rattle.std.specs.Prelude.{ℕ, ◌≡◌, ◌≢◌, ◌<◌, ◌+◌, ◌-◌, ◌^◌, ◌⊎◌, List, [], ◌∷◌, ◌++◌, All, true, length, min}
 use Rattle.vv_io.specs.Causes.{Rose}
 use Rattle.vv_io.specs.Keys.{IsOut, Keys, Took}
+use Rattle.vv_io.specs.Lines.{Seen}
 use Rattle.sys_devices.specs.Shows.{ShowsUnlessMarked}
 use Rattle.sys_script.specs.Typed.{events_typed, refusal_messages, rounds_ended, says_event}
 use Rattle.sys_live.specs.Operator.{Operator}
+use Rattle.sys_live.specs.Order.{AsksWhile}
 use Rattle.sys_live.specs.declared.typing.Count.{Count}
 use Rattle.sys_live.specs.declared.typing.TypedRound.{TypedRound}
 use Rattle.sys_live.specs.declared.typing.Typing.{Typing}
@@ -35,12 +37,15 @@ EndsTypedRound Lost count lines before after = LosesLine lines before after
 
 -- The lines of one round were taken, of which none is empty, and their events are the round's. Those that say none were reported,
 -- where nothing was cut before, by the numbers that follow those of the rounds before. Where an empty line ended the round it is
--- counted with them.
-pub record TypesRound (round : ℕ) (before after : Count) (typed : TypedRound) (p : Operator) : Type 0 where
+-- counted with them. Each was asked for while this was on the output, and one more was, if 32 bits count it.
+pub record TypesRound (round : ℕ) (out : Seen) (before after : Count) (typed : TypedRound) (p : Operator) : Type 0 where
   pub lines : List (List ℕ)
   pub none_is_empty : All (λ line. line ≢ []) lines
   pub taken : EndsTypedRound typed.typing (before.lines + length lines) lines p.keys p.keys'
-  pub counts : typed.typing ≡ GoesOn → after.lines ≡ before.lines + length lines + 1
+  pub counts : typed.typing ≡ GoesOn → (after.lines ≡ before.lines + length lines + 1) × (after.lines < 2 ^ 32)
+  pub asks : ℕ
+  pub asked : AsksWhile asks out p.keys p.keys'
+  pub asks_are : before.lines + asks ≡ min (before.lines + length lines + 1) (2 ^ 32 - 1)
   pub events : typed.events.items ≡ events_typed round lines
   pub told : ShowsUnlessMarked before.is_cut after.is_cut p.errors p.errors' (refusal_messages (before.lines + 1) lines)
 

@@ -36,6 +36,23 @@ pub struct Went {
     pub typing: Typing,
 }
 
+/// Shows what terminals were shown since the last time, where nothing was cut before; whether something is cut then.
+fn show_news<O: Sink, L: Lines>(
+    screens: &mut Vec<Screen>,
+    lines: &mut L,
+    is_cut: bool,
+    out: &mut O,
+) -> bool
+    requires there { All (λ screen. screen.line < 32) screens.old.items }
+    ensures goes_on { GoesOnShowing is_cut result (L.lines lines.new) screens.old.items screens.new.items (O.printed out.old) (O.printed out.new) }
+    ensures stays { L.lines lines.new ≡ L.lines lines.old }
+{
+    if is_cut {
+        return true;
+    }
+    echo(screens, lines, out).is_err()
+}
+
 /// Makes the next round with its events, and shows what terminals were shown in it where nothing was cut before; whether something
 /// is cut then.
 fn make_next<H: Hardware, O: Sink, L: Lines>(
@@ -58,15 +75,12 @@ fn make_next<H: Hardware, O: Sink, L: Lines>(
     ensures holds { IsSystem system.new }
 {
     make_rounds(system, machine, lines, events, 1, &mut NoProgress);
-    if is_cut {
-        return true;
-    }
-    echo(screens, lines, out).is_err()
+    show_news(screens, lines, is_cut, out)
 }
 
 /// Makes at most `most` rounds of a system, each when its lines have ended, and shows what terminals were shown in it. Where no
 /// more lines come the round that is begun is the last one.
-fn make_typed<H: Hardware, K: Keyboard, E: Sink, O: Sink, L: Lines>(
+fn make_typed<H: Hardware, K: Keyboard<O>, E: Sink, O: Sink, L: Lines>(
     alloc: Global,
     system: &mut System,
     screens: &mut Vec<Screen>,
@@ -93,7 +107,7 @@ fn make_typed<H: Hardware, K: Keyboard, E: Sink, O: Sink, L: Lines>(
     };
     let mut is_cut = false;
     for made in 0..most {
-        let typed = read_round(alloc, made + 1, &mut count, keyboard, errors);
+        let typed = read_round(alloc, made + 1, &mut count, keyboard, errors, out);
         let events = typed.events.as_slice();
         let typing = typed.typing;
         if typing != Typing::GoesOn {
@@ -116,7 +130,7 @@ fn make_typed<H: Hardware, K: Keyboard, E: Sink, O: Sink, L: Lines>(
 /// lines come, the keyboard fails, or memory runs out for a line, the round is the last one in which an event is said, if one is.
 /// Lines that say no event are reported on `errors` at once, and change nothing. All memory but that of events is taken before
 /// the first line. After a fault no line got a put, no drive a set, and no key was asked for.
-pub fn live<H: Hardware, K: Keyboard, E: Sink, O: Sink, L: Lines>(
+pub fn live<H: Hardware, K: Keyboard<O>, E: Sink, O: Sink, L: Lines>(
     alloc: Global,
     config: Config,
     images: &[Vec<u8>],

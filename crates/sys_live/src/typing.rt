@@ -92,23 +92,24 @@ fn take_line<E: Sink>(
 }
 
 /// Takes the lines of a round, up to the empty line that ends it, or as far as lines come. Each that says no event is reported at
-/// once, before the next is waited for.
-pub fn read_round<K: Keyboard, E: Sink>(
+/// once, before the next is waited for. Nothing is put on `out` meanwhile.
+pub fn read_round<K: Keyboard<O>, E: Sink, O: Sink>(
     alloc: Global,
     round: u32,
     count: &mut Count,
     keyboard: &mut K,
     errors: &mut E,
+    out: &O,
 ) -> TypedRound
     requires from { 1 ≤ round }
     requires to { round ≤ 1000000 }
-    ensures types { TypesRound round count.old count.new result (record { keys = K.keys keyboard.old; keys' = K.keys keyboard.new; errors = E.printed errors.old; errors' = E.printed errors.new }) }
+    ensures types { TypesRound round (O.printed out.now) count.old count.new result (record { keys = K.keys keyboard.old; keys' = K.keys keyboard.new; errors = E.printed errors.old; errors' = E.printed errors.new }) }
     ensures each { All IsEvent result.events.items }
     ensures round { AreOf round result.events.items }
 {
     let mut events = Vec::new(alloc);
     for lines in count.lines..u32::MAX {
-        let line = match keyboard.next() {
+        let line = match keyboard.next(out) {
             Ok(Some(line)) => line,
             Ok(None) => return ended(events, Typing::Over),
             Err(KeyFault) => return ended(events, Typing::Broken),

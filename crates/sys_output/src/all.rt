@@ -29,7 +29,8 @@ fn dump_at<H: Hardware, L: Lines>(
     requires there { IfSome place (λ line. line < 32) }
     requires inside { 512 * guest.now.base + 512 * guest.now.pages ≤ length (H.machine machine.now).memory }
     requires pages { guest.now.base + guest.now.pages ≤ 65536 }
-    ensures { Shows marks.old marks.new (L.lines lines.old) (L.lines lines.new) (only_on place (dump_of name.now (guest_of (H.machine machine.now).memory guest.now))) }
+    ensures { Shows marks.old marks.new (L.lines lines.old) (L.lines lines.new)
+        (only_on place (dump_of name.now (guest_of (H.machine machine.now).memory guest.now))) }
 {
     if let Some(line) = place {
         let k = line as usize;

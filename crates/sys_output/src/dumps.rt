@@ -69,7 +69,9 @@ fn put_rows<H: Hardware, L: Lines>(
     requires line { line < 32 }
     requires place { g.now.base + g.now.pages ≤ 65536 }
     requires inside { 512 * g.now.base + 512 * g.now.pages ≤ length (H.machine machine.now).memory }
-    ensures { ShownSinceOn line (is_err result) (L.lines lines.old) (L.lines lines.new) (text_of_lines (row_lines (32 * g.now.pages) 0 (part (H.machine machine.now).memory (512 * g.now.base) (512 * g.now.pages)))) }
+    ensures { ShownSinceOn line (is_err result) (L.lines lines.old) (L.lines lines.new)
+        (text_of_lines (row_lines (32 * g.now.pages) 0 (part (H.machine machine.now).memory (512 * g.now.base)
+        (512 * g.now.pages)))) }
 {
     for number in 0..32 * g.pages {
         let at = 16 * number;

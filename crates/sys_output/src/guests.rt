@@ -47,7 +47,8 @@ pub fn put_guests<H: Hardware, O: Sink>(
     guests: &[Guest],
 ) -> Result<(), SinkFault>
     requires { All (λ k. IsShadowedIn (H.machine machine.now).memory k) guests.now }
-    ensures shown { ShownSince (is_err result) (O.printed out.old) (O.printed out.new) (flat_map guest_bytes (guests_in (H.machine machine.now).memory guests.now)) }
+    ensures shown { ShownSince (is_err result) (O.printed out.old) (O.printed out.new)
+        (flat_map guest_bytes (guests_in (H.machine machine.now).memory guests.now)) }
     ensures sound { IfOk result (λ _. All (λ k. IsSound (state_of k.state)) guests.now) }
 {
     for guest in guests {

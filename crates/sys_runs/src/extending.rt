@@ -37,7 +37,15 @@ pub fn extend<H: Hardware, O: Sink, P: Progress, L: Lines>(
     requires few { snap.round + rounds ≤ 1000000 }
     requires pages { length (H.machine machine.old).memory ≡ 512 * 32768 }
     requires drives { vec_len drives.now ≡ 16 }
-    ensures { ExtendsRun MissesArePaid (snapshot_moment snap) text.now events.now rounds result (record { machine = H.machine machine.old; machine' = H.machine machine.new; lines = L.lines lines.old; lines' = L.lines lines.new; drives = map (λ d. kept d) drives.now.items; drives' = map (λ d. kept d) drives.now.items }) (O.printed out.old) (O.printed out.new) }
+    ensures { ExtendsRun MissesArePaid (snapshot_moment snap) text.now events.now rounds result
+        (record {
+          machine = H.machine machine.old;
+          machine' = H.machine machine.new;
+          lines = L.lines lines.old;
+          lines' = L.lines lines.new;
+          drives = map (λ d. kept d) drives.now.items;
+          drives' = map (λ d. kept d) drives.now.items;
+        }) (O.printed out.old) (O.printed out.new) }
 {
     let mut system = System::resume(alloc, snap, machine, drives)?;
     Ok(keep(

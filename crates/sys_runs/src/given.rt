@@ -34,7 +34,16 @@ pub fn run_with<H: Hardware, P: Progress, L: Lines>(
     requires ordered { AreEvents events.now }
     requires few { rounds ≤ 1000000 }
     requires pages { length (H.machine machine.old).memory ≡ 512 * 32768 }
-    ensures { (drives : List SeenDrive) → RunsWith MissesArePaid config (map (λ b. b.items) images.now) (map (λ b. b.items) volumes.now) events.now rounds result (record { machine = H.machine machine.old; machine' = H.machine machine.new; lines = L.lines lines.old; lines' = L.lines lines.new; drives = drives; drives' = drives }) }
+    ensures { (drives : List SeenDrive) → RunsWith MissesArePaid config (map (λ b. b.items) images.now)
+        (map (λ b. b.items) volumes.now) events.now rounds result
+        (record {
+          machine = H.machine machine.old;
+          machine' = H.machine machine.new;
+          lines = L.lines lines.old;
+          lines' = L.lines lines.new;
+          drives = drives;
+          drives' = drives;
+        }) }
 {
     let mut system = System::power_up_with(alloc, config, images, machine, volumes)?;
     make_rounds(&mut system, machine, lines, events, rounds, progress);

@@ -32,7 +32,15 @@ pub fn resume<H: Hardware, P: Progress, L: Lines>(
     requires few { rounds ≤ 1000000 }
     requires pages { length (H.machine machine.old).memory ≡ 512 * 32768 }
     requires drives { vec_len drives.old ≡ 16 }
-    ensures goes_on { ContinuesRun MissesArePaid (snapshot_moment snap) events.now rounds result (record { machine = H.machine machine.old; machine' = H.machine machine.new; lines = L.lines lines.old; lines' = L.lines lines.new; drives = map (λ d. kept d) drives.old.items; drives' = map (λ d. kept d) drives.new.items }) }
+    ensures goes_on { ContinuesRun MissesArePaid (snapshot_moment snap) events.now rounds result
+        (record {
+          machine = H.machine machine.old;
+          machine' = H.machine machine.new;
+          lines = L.lines lines.old;
+          lines' = L.lines lines.new;
+          drives = map (λ d. kept d) drives.old.items;
+          drives' = map (λ d. kept d) drives.new.items;
+        }) }
     ensures drives_len { vec_len drives.new ≡ vec_len drives.old }
 {
     let mut system = System::resume(alloc, snap, machine, drives)?;

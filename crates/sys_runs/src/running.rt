@@ -49,7 +49,16 @@ pub fn finish<H: Hardware, P: Progress, L: Lines>(
     requires present { HavePresent system.old.guests (map none_touched (guests_in (H.machine machine.old).memory system.old.guests)) }
     requires drives { vec_len drives.old ≡ 16 }
     requires fit { All (FitsDrive (map (λ d. kept d) drives.old.items)) system.old.config.volumes }
-    ensures makes { (m : Moment) (before : Machine) → IsAt m (H.machine machine.old) system.old → MemoryAlone before (H.machine machine.old) → MakesFrom MissesArePaid m events.now rounds result (record { machine = before; machine' = H.machine machine.new; lines = L.lines lines.old; lines' = L.lines lines.new; drives = map (λ d. kept d) drives.old.items; drives' = map (λ d. kept d) drives.new.items }) }
+    ensures makes { (m : Moment) (before : Machine) → IsAt m (H.machine machine.old) system.old →
+        MemoryAlone before (H.machine machine.old) → MakesFrom MissesArePaid m events.now rounds result
+        (record {
+          machine = before;
+          machine' = H.machine machine.new;
+          lines = L.lines lines.old;
+          lines' = L.lines lines.new;
+          drives = map (λ d. kept d) drives.old.items;
+          drives' = map (λ d. kept d) drives.new.items;
+        }) }
     ensures drives_len { vec_len drives.new ≡ vec_len drives.old }
 {
     make_rounds(system, machine, lines, events, rounds, progress);
@@ -81,7 +90,15 @@ pub fn run<H: Hardware, P: Progress, L: Lines>(
     requires few { rounds ≤ 1000000 }
     requires pages { length (H.machine machine.old).memory ≡ 512 * 32768 }
     requires drives { vec_len drives.old ≡ 16 }
-    ensures runs { Runs MissesArePaid config (map (λ b. b.items) images.now) events.now rounds result (record { machine = H.machine machine.old; machine' = H.machine machine.new; lines = L.lines lines.old; lines' = L.lines lines.new; drives = map (λ d. kept d) drives.old.items; drives' = map (λ d. kept d) drives.new.items }) }
+    ensures runs { Runs MissesArePaid config (map (λ b. b.items) images.now) events.now rounds result
+        (record {
+          machine = H.machine machine.old;
+          machine' = H.machine machine.new;
+          lines = L.lines lines.old;
+          lines' = L.lines lines.new;
+          drives = map (λ d. kept d) drives.old.items;
+          drives' = map (λ d. kept d) drives.new.items;
+        }) }
     ensures drives_len { vec_len drives.new ≡ vec_len drives.old }
 {
     let mut system = System::power_up(alloc, config, images, machine, drives)?;

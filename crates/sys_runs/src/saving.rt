@@ -52,7 +52,17 @@ pub fn keep<H: Hardware, O: Sink, P: Progress, L: Lines>(
     requires holds { IsSystem system.old }
     requires stands { IsInMachine (H.machine machine.old).memory system.old }
     requires present { HavePresent system.old.guests (map none_touched (guests_in (H.machine machine.old).memory system.old.guests)) }
-    ensures { (m : Moment) (before : Machine) (drives : List SeenDrive) → IsAt m (H.machine machine.old) system.old → MemoryAlone before (H.machine machine.old) → IsConsistentState m.config m.state → All (FitsDrive drives) m.config.volumes → SavesFrom MissesArePaid m events.now rounds text.now result (record { machine = before; machine' = H.machine machine.new; lines = L.lines lines.old; lines' = L.lines lines.new; drives = drives; drives' = drives }) (O.printed out.old) (O.printed out.new) }
+    ensures { (m : Moment) (before : Machine) (drives : List SeenDrive) → IsAt m (H.machine machine.old) system.old →
+        MemoryAlone before (H.machine machine.old) → IsConsistentState m.config m.state →
+        All (FitsDrive drives) m.config.volumes → SavesFrom MissesArePaid m events.now rounds text.now result
+        (record {
+          machine = before;
+          machine' = H.machine machine.new;
+          lines = L.lines lines.old;
+          lines' = L.lines lines.new;
+          drives = drives;
+          drives' = drives;
+        }) (O.printed out.old) (O.printed out.new) }
 {
     make_rounds(system, machine, lines, events, rounds, progress);
     let failed = system.failed();
@@ -85,7 +95,15 @@ pub fn save<H: Hardware, O: Sink, P: Progress, L: Lines>(
     requires few { rounds ≤ 1000000 }
     requires pages { length (H.machine machine.old).memory ≡ 512 * 32768 }
     requires drives { vec_len drives.old ≡ 16 }
-    ensures saves { SavesRun MissesArePaid config text.now (map (λ b. b.items) images.now) events.now rounds result (record { machine = H.machine machine.old; machine' = H.machine machine.new; lines = L.lines lines.old; lines' = L.lines lines.new; drives = map (λ d. kept d) drives.old.items; drives' = map (λ d. kept d) drives.new.items }) (O.printed out.old) (O.printed out.new) }
+    ensures saves { SavesRun MissesArePaid config text.now (map (λ b. b.items) images.now) events.now rounds result
+        (record {
+          machine = H.machine machine.old;
+          machine' = H.machine machine.new;
+          lines = L.lines lines.old;
+          lines' = L.lines lines.new;
+          drives = map (λ d. kept d) drives.old.items;
+          drives' = map (λ d. kept d) drives.new.items;
+        }) (O.printed out.old) (O.printed out.new) }
     ensures drives_len { vec_len drives.new ≡ vec_len drives.old }
 {
     let mut system = System::power_up(alloc, config, images, machine, drives)?;

@@ -10,7 +10,7 @@ use Rattle.vv_io.specs.Lines.{Seen}
 use Rattle.sys_events.specs.Happens.{Happen}
 use Rattle.sys_guests.proofs.LaidOut.{placed_long}
 use Rattle.sys_guests.specs.Kernel as kernels
-use Rattle.sys_guests.specs.Kernel.{AreUnits, IsKernel, Leads}
+use Rattle.sys_guests.specs.Kernel.{AreUnits, IsKernel, Leads, scene}
 use Rattle.sys_guests.specs.Layout.{guests_in}
 use Rattle.sys_objects.specs.Condition.{IsGuest}
 use Rattle.sys_objects.specs.declared.records.Config.{Config}
@@ -112,7 +112,7 @@ counted_begun s s' h more config turns rounds counts =
     }
 
 -- its events have happened
-pub begun : (es : List Event) (m m' : Machine) (s s' : Parts) (lines lines' : List Seen) → AreSystemParts s → s.rounds < 4000000000 → turns_of s'.turns ≡ all_turns s.kernel.config.guests → s'.rounds ≡ s.rounds + 1 → s'.counts ≡ s.counts → s'.volumes ≡ s.volumes → s'.drives ≡ s.drives → Happen (s.rounds + 1) es m s.kernel lines m' s'.kernel lines'
+pub begun : (es : List Event) (m m' : Machine) (s s' : Parts) (lines lines' : List Seen) → AreSystemParts s → s.rounds < 4000000000 → turns_of s'.turns ≡ all_turns s.kernel.config.guests → s'.rounds ≡ s.rounds + 1 → s'.counts ≡ s.counts → s'.volumes ≡ s.volumes → s'.drives ≡ s.drives → Happen (s.rounds + 1) es (scene m s.kernel lines) (scene m' s'.kernel lines')
     → BeginsRound es m (system_of s) lines m' (system_of s') lines' × AreSystemParts s'
 begun es m m' s s' lines lines' h more turns rounds counts volumes drives happened =
     let l = happened s.volumes in
@@ -133,7 +133,7 @@ begun es m m' s s' lines lines' h more turns rounds counts volumes drives happen
 
 -- its transfers are made
 pub ended : (m m' : Machine) (s s' : Parts) (lines lines' : List Seen) → AreSystemParts s → turns_of s'.turns ≡ no_round (turns_of s.turns) → s'.rounds ≡ s.rounds → s'.counts ≡ s.counts → s'.drives ≡ s.drives → map length s'.volumes ≡ map length s.volumes
-    → Leads (transfers s.kernel.config (kernels.kernel_state m.memory s.kernel s.volumes)) m s.kernel lines m' s'.kernel s'.volumes lines' → EndsRound m (system_of s) lines m' (system_of s') lines' × AreSystemParts s'
+    → Leads (transfers s.kernel.config (kernels.kernel_state m.memory s.kernel s.volumes)) (scene m s.kernel lines) (scene m' s'.kernel lines') s'.volumes → EndsRound m (system_of s) lines m' (system_of s') lines' × AreSystemParts s'
 ended m m' s s' lines lines' h turns rounds counts drives sizes l =
     let left : s'.turns.left.items ≡ s.turns.left.items = ap (λ (x : Turns). x.left) turns in
     let sized : AreSized s'.kernel.config s'.volumes = sizes ∙ h.system.volumes ∙ ap (λ (c : Config). map (λ (v : VolumeRow). v.blocks) c.volumes) (sym l.config) in (

@@ -69,7 +69,8 @@ impl System {
         requires images { length images.now ≡ length config.guests }
         requires pages { length (H.machine machine.old).memory ≡ 512 * 32768 }
         requires drives { vec_len drives.old ≡ 16 }
-        ensures powers { Powers config (map (λ b. b.items) images.now) (map (λ d. kept d) drives.old.items) (map (λ d. kept d) drives.new.items) (H.machine machine.new) result }
+        ensures powers { Powers config (map (λ b. b.items) images.now) (map (λ d. kept d) drives.old.items)
+            (map (λ d. kept d) drives.new.items) (H.machine machine.new) result }
         ensures present { IfOk result (λ s. HavePresent s.guests (map none_touched (guests_in (H.machine machine.new).memory s.guests))) }
         ensures alone { MemoryAlone (H.machine machine.old) (H.machine machine.new) }
         ensures holds { IfOk result IsSystem }

@@ -26,7 +26,8 @@ impl System {
         requires text { config_of config_text.now ≡ Ok self.now.config }
         requires short { length config_text.now ≤ 262144 }
         requires stands { IsInMachine (H.machine machine.now).memory self.now }
-        ensures shown { ShownSince (is_err result) (O.printed out.old) (O.printed out.new) (snap_bytes config_text.now (moment_of (H.machine machine.now).memory self.now)) }
+        ensures shown { ShownSince (is_err result) (O.printed out.old) (O.printed out.new)
+            (snap_bytes config_text.now (moment_of (H.machine machine.now).memory self.now)) }
         ensures sound { IfOk result (λ _. All (λ k. IsSound (state_of k.state)) self.now.guests) }
         ensures long { IfOk result (λ _. All (λ blocks. All (λ b. length b ≡ 512) blocks) self.now.volumes) }
     {

@@ -60,7 +60,8 @@ impl System {
         requires few { self.old.rounds < 4000000000 }
         requires stands { IsInMachine (H.machine machine.old).memory self.old }
         ensures begins { BeginsRound events.now (H.machine machine.old) self.old (L.lines lines.old) (H.machine machine.new) self.new (L.lines lines.new) }
-        ensures present { KeepsAll (touches_of_events self.old.config (self.old.rounds + 1) (system_state (H.machine machine.old).memory self.old) events.now) self.old.guests self.new.guests }
+        ensures present { KeepsAll (touches_of_events self.old.config (self.old.rounds + 1)
+            (system_state (H.machine machine.old).memory self.old) events.now) self.old.guests self.new.guests }
         ensures holds { IsSystem self.new }
     {
         let s = &mut self.parts;
@@ -80,8 +81,11 @@ impl System {
     )
         requires can { CanTake self.old (record { guest = guest; steps = steps }) }
         requires stands { IsInMachine (H.machine machine.old).memory self.old }
-        ensures takes { TakesSlice (record { guest = guest; steps = steps }) (H.machine machine.old) self.old (L.lines lines.old) (H.machine machine.new) self.new (L.lines lines.new) }
-        ensures pays { PaysAll (touches_of_slice (record { guest = guest; steps = steps }) (guests_in (H.machine machine.old).memory self.old.guests)) (H.machine machine.old) self.old.guests (H.machine machine.new) self.new.guests }
+        ensures takes { TakesSlice (record { guest = guest; steps = steps }) (H.machine machine.old) self.old
+            (L.lines lines.old) (H.machine machine.new) self.new (L.lines lines.new) }
+        ensures pays { PaysAll (touches_of_slice (record { guest = guest; steps = steps })
+            (guests_in (H.machine machine.old).memory self.old.guests)) (H.machine machine.old) self.old.guests
+            (H.machine machine.new) self.new.guests }
         ensures holds { IsSystem self.new }
     {
         let s = &mut self.parts;
@@ -100,7 +104,9 @@ impl System {
         requires none { NoneLeft self.old.turns.left }
         requires stands { IsInMachine (H.machine machine.old).memory self.old }
         ensures ends { EndsRound (H.machine machine.old) self.old (L.lines lines.old) (H.machine machine.new) self.new (L.lines lines.new) }
-        ensures present { KeepsAll (touches_of_transfers self.old.config self.old.config.guests self.old.mounts (guests_in (H.machine machine.old).memory self.old.guests) self.old.volumes) self.old.guests self.new.guests }
+        ensures present { KeepsAll (touches_of_transfers self.old.config self.old.config.guests self.old.mounts
+            (guests_in (H.machine machine.old).memory self.old.guests) self.old.volumes) self.old.guests
+            self.new.guests }
         ensures holds { IsSystem self.new }
     {
         let s = &mut self.parts;
@@ -153,7 +159,8 @@ impl System {
         requires stands { IsInMachine (H.machine machine.now).memory self.old }
         requires drives { vec_len drives.old ≡ 16 }
         requires fit { All (FitsDrive (map (λ d. kept d) drives.old.items)) self.old.config.volumes }
-        ensures ends { PowersDown (H.machine machine.now) self.old (L.lines lines.old) (map (λ d. kept d) drives.old.items) self.new (L.lines lines.new) (map (λ d. kept d) drives.new.items) }
+        ensures ends { PowersDown (H.machine machine.now) self.old (L.lines lines.old)
+            (map (λ d. kept d) drives.old.items) self.new (L.lines lines.new) (map (λ d. kept d) drives.new.items) }
         ensures drives_len { vec_len drives.new ≡ vec_len drives.old }
     {
         self.show_dumps(machine, lines);

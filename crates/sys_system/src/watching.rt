@@ -42,8 +42,11 @@ impl System {
     ) -> Watched
         requires can { CanTake self.old (record { guest = guest; steps = 1 }) }
         requires stands { IsInMachine (H.machine machine.old).memory self.old }
-        ensures takes { TakesSlice (record { guest = guest; steps = 1 }) (H.machine machine.old) self.old (L.lines lines.old) (H.machine machine.new) self.new (L.lines lines.new) }
-        ensures pays { PaysAll (touches_of_slice (record { guest = guest; steps = 1 }) (guests_in (H.machine machine.old).memory self.old.guests)) (H.machine machine.old) self.old.guests (H.machine machine.new) self.new.guests }
+        ensures takes { TakesSlice (record { guest = guest; steps = 1 }) (H.machine machine.old) self.old
+            (L.lines lines.old) (H.machine machine.new) self.new (L.lines lines.new) }
+        ensures pays { PaysAll (touches_of_slice (record { guest = guest; steps = 1 })
+            (guests_in (H.machine machine.old).memory self.old.guests)) (H.machine machine.old) self.old.guests
+            (H.machine machine.new) self.new.guests }
         ensures tells { IfSome (slice_get (guests_in (H.machine machine.old).memory self.old.guests) guest) (λ g. DescribesStep g result) }
         ensures holds { IsSystem self.new }
     {

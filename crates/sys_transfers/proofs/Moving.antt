@@ -21,7 +21,7 @@ use Rattle.sys_store.specs.Blocks.{HasBlock, LacksBlock, blocks_of, with_block}
 use Rattle.sys_store.specs.Job.{job_text}
 use Rattle.vv_class.specs.declared.class.AccessClass.{AccessClass}
 use Rattle.vm_state.specs.State.{Guest}
-use Rattle.sys_transfers.specs.Serves.{Carries, PrintsOf}
+use Rattle.sys_transfers.specs.Serves.{Carries, PrintsOf, guest_scene}
 use Rattle.sys_transfers.proofs.Composing.{becomes_same}
 use Rattle.sys_transfers.proofs.Dropping.{block_frames, dropped_within}
 use Rattle.vm_state.specs.Translation.{frame_at}
@@ -113,21 +113,21 @@ pub print_moves : (space : ℕ) (p : Packet) → p.size ≤ 132 → is_past spac
 print_moves space p h past = λ i. prints (le-ltb 132 p.size h i) (past i)
 
 -- A move is refused: nothing changes.
-pub refuses : (status : ℕ) (move : Move) (p : Packet) (volumes : List (List (List ℕ))) (m : Machine) (k : Kept) → IsShadowedIn m.memory k → move ≡ Refused status → Carries move p volumes volumes m k status m k
-refuses status move p volumes m k stands is = subst (λ (x : Move). Carries x p volumes volumes m k status m k) (sym is) (record { status_is = refl; becomes = becomes_same m k stands; volumes_are = refl; drops = none_dropped [] k.shadow })
+pub refuses : (status : ℕ) (move : Move) (p : Packet) (volumes : List (List (List ℕ))) (m : Machine) (k : Kept) → IsShadowedIn m.memory k → move ≡ Refused status → Carries move p (guest_scene volumes m k) status (guest_scene volumes m k)
+refuses status move p volumes m k stands is = subst (λ (x : Move). Carries x p (guest_scene volumes m k) status (guest_scene volumes m k)) (sym is) (record { status_is = refl; becomes = becomes_same m k stands; volumes_are = refl; drops = none_dropped [] k.shadow })
 
 -- a block is read into memory
 pub reads_block : (v : ℕ) (move : Move) (p : Packet) (volumes : List (List (List ℕ))) (bytes : List ℕ) (m : Machine) (k : Kept) (m' : Machine) (k' : Kept) → move ≡ Reads v → HasBlock volumes v p.block bytes
-    → Becomes (with_bytes p.buffer bytes (guest_in m.memory k)) m k m' k' → length bytes ≡ 512 → Drops (frames_from p.buffer bytes) k.shadow k'.shadow → Carries move p volumes volumes m k 1 m' k'
+    → Becomes (with_bytes p.buffer bytes (guest_in m.memory k)) m k m' k' → length bytes ≡ 512 → Drops (frames_from p.buffer bytes) k.shadow k'.shadow → Carries move p (guest_scene volumes m k) 1 (guest_scene volumes m' k')
 reads_block v move p volumes bytes m k m' k' is has becomes long drops =
     let block : bytes ≡ slice_index_or (blocks_of volumes v) p.block [] = sym (get_or_from_slice_get (blocks_of volumes v) p.block bytes [] has) in
     let read : Becomes (with_bytes p.buffer (slice_index_or (blocks_of volumes v) p.block []) (guest_in m.memory k)) m k m' k' = subst (λ (bs : List ℕ). Becomes (with_bytes p.buffer bs (guest_in m.memory k)) m k m' k') block becomes in
-    subst (λ (x : Move). Carries x p volumes volumes m k 1 m' k') (sym is) (record { status_is = refl; becomes = read; volumes_are = refl; drops = dropped_within p.buffer bytes (frame_at p.buffer ∷ frame_at (p.buffer + 511) ∷ []) k.shadow k'.shadow (λ i h. block_frames p.buffer i (omega (arith, h, long))) drops })
+    subst (λ (x : Move). Carries x p (guest_scene volumes m k) 1 (guest_scene volumes m' k')) (sym is) (record { status_is = refl; becomes = read; volumes_are = refl; drops = dropped_within p.buffer bytes (frame_at p.buffer ∷ frame_at (p.buffer + 511) ∷ []) k.shadow k'.shadow (λ i h. block_frames p.buffer i (omega (arith, h, long))) drops })
 
 -- a block is written from memory
 pub writes_block : (v : ℕ) (move : Move) (p : Packet) (volumes volumes' : List (List (List ℕ))) (m : Machine) (k : Kept) → IsShadowedIn m.memory k → move ≡ Writes v → volumes' ≡ with_block volumes v p.block (bytes_at (guest_in m.memory k) p.buffer 512)
-    → Carries move p volumes volumes' m k 1 m k
-writes_block v move p volumes volumes' m k stands is written = subst (λ (x : Move). Carries x p volumes volumes' m k 1 m k) (sym is) (record { status_is = refl; becomes = becomes_same m k stands; volumes_are = written; drops = none_dropped [] k.shadow })
+    → Carries move p (guest_scene volumes m k) 1 (guest_scene volumes' m k)
+writes_block v move p volumes volumes' m k stands is written = subst (λ (x : Move). Carries x p (guest_scene volumes m k) 1 (guest_scene volumes' m k)) (sym is) (record { status_is = refl; becomes = becomes_same m k stands; volumes_are = written; drops = none_dropped [] k.shadow })
 
 -- What a call answers.
 pub on_err : {U E P : Type 0} (r : Result U E) → is_err r ≡ true → OnErr r P → P

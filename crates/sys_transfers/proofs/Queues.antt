@@ -21,7 +21,7 @@ use Rattle.sys_state.specs.FirstTouches.{touches_of_queue}
 use Rattle.sys_state.specs.Guests.{with_no_queue}
 use Rattle.sys_state.specs.State.{Put, bytes_on}
 use Rattle.sys_state.specs.Transfers.{Served, printer_of, served}
-use Rattle.sys_transfers.specs.Serves.{MountsNameVolumes, ServesOne, frames_served, job_on, one_packet}
+use Rattle.sys_transfers.specs.Serves.{MountsNameVolumes, ServesOne, frames_served, guest_scene, job_on, one_packet}
 use Rattle.sys_transfers.specs.ServesAll.{ServesGuest, all_packets, all_touched}
 use Rattle.sys_transfers.proofs.Composing.{becomes_as, becomes_then, becomes_turned}
 use Rattle.sys_transfers.proofs.Sizes.{as_many, one_keeps_sizes, sizes}
@@ -70,7 +70,7 @@ touches_at c row units g at queue n d volumes t h is =
     at_drop_more (λ (q : List ℕ). touches_of_queue c row units g q volumes t) queue n d h ∙ ap (λ (a : ℕ). touches_of_queue c row units g (a ∷ drop (n + 1) queue) volumes t) (sym is) ∙ next_touches c row units g at (drop (n + 1) queue) volumes t
 
 -- what is present after a packet has entries
-one_present : (row : GuestRow) (units : List (Option Mount)) (at : ℕ) (vs vs2 : List (List (List ℕ))) (m1 : Machine) (k1 : Kept) (job : Option (List ℕ)) (m2 : Machine) (k2 : Kept) (p : Present) → IsShadowedIn m1.memory k1 → IsShadowedIn m2.memory k2 → ServesOne row units at vs vs2 m1 k1 job m2 k2 → at % 4 ≡ 0 → HasPresent k1.shadow p
+one_present : (row : GuestRow) (units : List (Option Mount)) (at : ℕ) (vs vs2 : List (List (List ℕ))) (m1 : Machine) (k1 : Kept) (job : Option (List ℕ)) (m2 : Machine) (k2 : Kept) (p : Present) → IsShadowedIn m1.memory k1 → IsShadowedIn m2.memory k2 → ServesOne row units at (guest_scene vs m1 k1) job (guest_scene vs2 m2 k2) → at % 4 ≡ 0 → HasPresent k1.shadow p
     → HasPresent k2.shadow (touching_write (guest_in m1.memory k1) (frames_served units (guest_in m1.memory k1) at vs) p)
 one_present row units at vs vs2 m1 k1 job m2 k2 p before after serves aligned has =
     let frames = frames_served units (guest_in m1.memory k1) at vs in
@@ -136,7 +136,7 @@ module _ (c : Config) (row : GuestRow) (units : List (Option Mount)) (volumes : 
 
   -- one packet more
   pub one_more : (n : ℕ) (vs vs2 : List (List (List ℕ))) (m1 : Machine) (k1 : Kept) (marks1 : List Bool) (lines1 : List Seen) (items : List ℕ) (d at : ℕ) (job : Option (List ℕ)) (m2 : Machine) (k2 : Kept) (marks2 : List Bool) (lines2 : List Seen) → IsShadowedIn m.memory k → items ≡ queue → n < length items → at ≡ slice_index_or items n d → SoFar n vs m1 k1 marks1 lines1
-      → ServesOne row units at vs vs2 m1 k1 job m2 k2 → Shows marks1 marks2 lines1 lines2 (λ j. bytes_on j (job_on (printer_of c row.printer) job)) → SoFar (n + 1) vs2 m2 k2 marks2 lines2
+      → ServesOne row units at (guest_scene vs m1 k1) job (guest_scene vs2 m2 k2) → Shows marks1 marks2 lines1 lines2 (λ j. bytes_on j (job_on (printer_of c row.printer) job)) → SoFar (n + 1) vs2 m2 k2 marks2 lines2
   one_more n vs vs2 m1 k1 marks1 lines1 items d at job m2 k2 marks2 lines2 stands same h is x serves shown = record {
     puts = x.puts ++ one.puts;
     becomes = becomes_then m k (guest_in m1.memory k1) m1 k1 (guest_in m2.memory k2) m2 k2 stands x.becomes (becomes_as one.guest (guest_in m2.memory k2) m1 k1 m2 k2 (sym served_now.guest) served_now);
@@ -183,15 +183,21 @@ module _ (c : Config) (row : GuestRow) (units : List (Option Mount)) (volumes : 
       told : (j : ℕ) → bytes_on j x.puts ++ bytes_on j (job_on (printer_of c row.printer) job) ≡ bytes_on j (x.puts ++ one.puts)
       told j = ap (λ (qs : List Put). bytes_on j x.puts ++ bytes_on j qs) (sym (serves.shows c)) ∙ sym (bytes_append j x.puts one.puts)
 
-  -- all are served
-  pub all_packets_served : (n : ℕ) (vs : List (List (List ℕ))) (m1 : Machine) (k1 : Kept) (marks1 : List Bool) (lines1 : List Seen) (items : List ℕ) → items ≡ queue → length items ≤ n → SoFar n vs m1 k1 marks1 lines1 → ServesGuest c row units volumes m k marks lines vs m1 k1 marks1 lines1
-  all_packets_served n vs m1 k1 marks1 lines1 items same h x = record {
-    becomes = becomes_as (guest_in m1.memory k1) whole.guest m k m1 k1 (ap (λ (s : Served). s.guest) (sym none) ∙ x.guest) x.becomes;
-    volumes_are = ap (λ (s : Served). s.volumes) (sym none) ∙ x.volumes_are;
-    shows = shows_same marks marks1 lines lines1 (λ j. bytes_on j x.puts) (λ j. bytes_on j whole.puts) (λ j. ap (bytes_on j) (sym (append-nil x.puts) ∙ ap (λ (s : Served). x.puts ++ s.puts) (sym none) ∙ x.puts_are)) x.shows;
-    present = λ t all. let r = x.present t all in
-        subst (λ (u : Touching). HasPresent k1.shadow u.present) (sym (at_drop_all (λ (q : List ℕ). touches_of_queue c row units (guest_in m1.memory k1) q vs r.at) queue n (subst (λ (xs : List ℕ). length xs ≤ n) same h)) ∙ r.is) r.has;
-  }
-    where
-      none : left n (guest_in m1.memory k1) vs ≡ record { guest = guest_in m1.memory k1; volumes = vs; puts = [] }
-      none = none_at c row units (guest_in m1.memory k1) queue n vs (subst (λ (xs : List ℕ). length xs ≤ n) same h)
+  none_left : (n : ℕ) (vs : List (List (List ℕ))) (h : Guest) (items : List ℕ) → items ≡ queue → length items ≤ n → left n h vs ≡ record { guest = h; volumes = vs; puts = [] }
+  none_left n vs h items same end = none_at c row units h queue n vs (subst (λ (xs : List ℕ). length xs ≤ n) same end)
+
+  -- all are served, and shown
+  pub all_packets_served : (n : ℕ) (vs : List (List (List ℕ))) (m1 : Machine) (k1 : Kept) (marks1 : List Bool) (lines1 : List Seen) (items : List ℕ) → items ≡ queue → length items ≤ n → SoFar n vs m1 k1 marks1 lines1 → ServesGuest c row units (guest_scene volumes m k) (guest_scene vs m1 k1)
+  all_packets_served n vs m1 k1 marks1 lines1 items same h x =
+      let none = none_left n vs (guest_in m1.memory k1) items same h in
+      record {
+        becomes = becomes_as (guest_in m1.memory k1) whole.guest m k m1 k1 (ap (λ (s : Served). s.guest) (sym none) ∙ x.guest) x.becomes;
+        volumes_are = ap (λ (s : Served). s.volumes) (sym none) ∙ x.volumes_are;
+        present = λ t all. let r = x.present t all in
+            subst (λ (u : Touching). HasPresent k1.shadow u.present) (sym (at_drop_all (λ (q : List ℕ). touches_of_queue c row units (guest_in m1.memory k1) q vs r.at) queue n (subst (λ (xs : List ℕ). length xs ≤ n) same h)) ∙ r.is) r.has;
+      }
+
+  pub all_packets_shown : (n : ℕ) (vs : List (List (List ℕ))) (m1 : Machine) (k1 : Kept) (marks1 : List Bool) (lines1 : List Seen) (items : List ℕ) → items ≡ queue → length items ≤ n → SoFar n vs m1 k1 marks1 lines1 → Shows marks marks1 lines lines1 (λ j. bytes_on j whole.puts)
+  all_packets_shown n vs m1 k1 marks1 lines1 items same h x =
+      let none = none_left n vs (guest_in m1.memory k1) items same h in
+      shows_same marks marks1 lines lines1 (λ j. bytes_on j x.puts) (λ j. bytes_on j whole.puts) (λ j. ap (bytes_on j) (sym (append-nil x.puts) ∙ ap (λ (s : Served). x.puts ++ s.puts) (sym none) ∙ x.puts_are)) x.shows

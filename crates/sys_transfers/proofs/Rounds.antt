@@ -1,5 +1,5 @@
 -- The transfers of all guests, one guest after another.
-use Rattle.std.proofs.Common.{◌≡◌, ℕ, zero, suc, ◌+◌, ◌<◌, ◌≤◌, List, [], ◌∷◌, ◌++◌, length, map, drop, take, slice_index_or, slice_set, All, Bool, Option, Some, refl, ap, ◌∙◌, sym, subst, arith, append-nil, append_assoc}
+use Rattle.std.proofs.Common.{◌≡◌, ℕ, zero, suc, ◌+◌, ◌<◌, ◌≤◌, List, [], ◌∷◌, ◌++◌, length, map, drop, take, slice_index_or, All, Bool, Option, Some, refl, ap, ◌∙◌, sym, subst, arith, append-nil, append_assoc}
 use Rattle.std.specs.List.{slice_get}
 use Rattle.std.proofs.lemmas.List.{drop_all, length-map, take_all}
 use Rattle.vax_hw.specs.Machine.{Machine}
@@ -11,13 +11,12 @@ use Rattle.sys_guests.proofs.LaidOut.{placed_long}
 use Rattle.sys_guests.proofs.Lists.{get_at, get_map, one_of_all}
 use Rattle.sys_guests.proofs.One.{one_becomes}
 use Rattle.sys_guests.proofs.Present.{set_present}
-use Rattle.sys_guests.specs.Kernel.{AreUnits, IsKernel, Leads, kernel_state}
+use Rattle.sys_guests.specs.Kernel.{AreUnits, IsKernel, Leads, kernel_state, scene}
 use Rattle.sys_guests.specs.Layout.{AreInMachine, OnlyGuests, guests_in}
 use Rattle.sys_guests.specs.Present.{HavePresent, KeepsAll}
 use Rattle.sys_guests.specs.declared.kernel.Kernel.{Kernel}
 use Rattle.sys_devices.specs.Shows.{Shows}
 use Rattle.sys_devices.proofs.Showings.{shows_none, shows_same, shows_then}
-use Rattle.sys_objects.specs.Condition.{IsConfig}
 use Rattle.sys_objects.specs.declared.records.Config.{Config}
 use Rattle.sys_objects.specs.declared.records.GuestRow.{GuestRow}
 use Rattle.sys_objects.specs.declared.records.Mount.{Mount}
@@ -26,28 +25,33 @@ use Rattle.sys_state.specs.FirstTouches.{touches_of_transfers}
 use Rattle.sys_state.specs.Places.{changed}
 use Rattle.sys_state.specs.State.{Put, SystemState, bytes_on}
 use Rattle.sys_state.specs.Transfers.{AllServed, Served, all_served, transfers}
-use Rattle.sys_transfers.specs.Serves.{MountsNameVolumes}
+use Rattle.sys_transfers.specs.Serves.{MountsNameVolumes, guest_scene}
 use Rattle.sys_transfers.specs.ServesAll.{ServesAt, ServesGuest, all_packets, all_touched}
 use Rattle.sys_transfers.proofs.Places.{before_changed, after_changed, from_here, got_in_front}
 use Rattle.sys_transfers.proofs.Sizes.{as_many, packets_keep_faults, packets_keep_sizes, sizes}
+use Rattle.std.specs.Vec.{with_item}
 
 -- the guest at a place
-pub served_at : (c : Config) (mounts : List (List (Option Mount))) (place : ℕ) (row : GuestRow) (units : List (Option Mount)) (volumes : List (List (List ℕ))) (m : Machine) (ks : List Kept) (k : Kept) (marks : List Bool) (lines : List Seen) (volumes' : List (List (List ℕ))) (m' : Machine) (k' : Kept) (marks' : List Bool) (lines' : List Seen)
-    → place < length c.guests → row ≡ slice_index_or c.guests place row → place < length mounts → units ≡ slice_index_or mounts place units → k ≡ slice_index_or ks place k → AreInMachine c.guests m.memory ks
-    → ServesGuest c row units volumes m k marks lines volumes' m' k' marks' lines' → ServesAt c mounts place volumes m ks marks lines volumes' m' (slice_set ks place k') marks' lines'
-served_at c mounts place row units volumes m ks k marks lines volumes' m' k' marks' lines' there row_is there' units_is k_is placed x =
+pub served_at : (k0 : Kernel) (place : ℕ) (row : GuestRow) (units : List (Option Mount)) (volumes : List (List (List ℕ))) (m : Machine) (k : Kept) (lines : List Seen) (volumes' : List (List (List ℕ))) (m' : Machine) (k' : Kept) (marks' : List Bool) (lines' : List Seen)
+    → place < length k0.config.guests → row ≡ slice_index_or k0.config.guests place row → place < length k0.server.mounts → units ≡ slice_index_or k0.server.mounts place units → k ≡ slice_index_or k0.guests.items place k → AreInMachine k0.config.guests m.memory k0.guests.items
+    → ServesGuest k0.config row units (guest_scene volumes m k) (guest_scene volumes' m' k') → Shows k0.marks marks' lines lines' (λ line. bytes_on line (all_packets k0.config row units (guest_in m.memory k) volumes).puts)
+    → ServesAt place (scene m k0 lines) volumes (scene m' (record k0 { guests = with_item k0.guests place k'; marks = marks' }) lines') volumes'
+served_at k0 place row units volumes m k lines volumes' m' k' marks' lines' there row_is there' units_is k_is placed x shows =
+    let c : Config = k0.config in
+    let ks : List Kept = k0.guests.items in
     let long : length ks ≡ length c.guests = placed_long _ _ c.guests ks placed.laid_out in
     let within : place < length ks = omega (arith, there, long) in
     record {
       row = row;
       has_row = get_at c.guests place row there row_is;
       units = units;
-      has_units = get_at mounts place units there' units_is;
+      has_units = get_at k0.server.mounts place units there' units_is;
       guest = guest_in m.memory k;
       has_guest = get_map (guest_in m.memory) ks place k within k_is;
       changes = one_becomes c.guests place (λ g. (all_packets c row units g volumes).guest) ks k k' m m' within k_is placed (packets_keep_faults c row units (guest_in m.memory k) volumes) x.becomes;
       volumes_are = x.volumes_are;
-      shows = x.shows;
+      shows = shows;
+      rest = refl;
       machine = x.becomes.rest;
       present = set_present ks place k k' (all_touched c row units (guest_in m.memory k) volumes) within k_is x.present;
     }
@@ -157,14 +161,14 @@ module _ (k : Kernel) (volumes : List (List (List ℕ))) (m : Machine) (lines : 
   }
 
   -- one guest more
-  pub one_more : (i : ℕ) (vs vs2 : List (List (List ℕ))) (m1 : Machine) (ks1 : List Kept) (marks1 : List Bool) (lines1 : List Seen) (m2 : Machine) (ks2 : List Kept) (marks2 : List Bool) (lines2 : List Seen) → i < length c.guests → SoFar i vs m1 ks1 marks1 lines1
-      → ServesAt c k.server.mounts i vs m1 ks1 marks1 lines1 vs2 m2 ks2 marks2 lines2 → SoFar (i + 1) vs2 m2 ks2 marks2 lines2
-  one_more i vs vs2 m1 ks1 marks1 lines1 m2 ks2 marks2 lines2 h x y = record {
+  pub one_more : (i : ℕ) (vs vs2 : List (List (List ℕ))) (m1 : Machine) (k1 : Kernel) (lines1 : List Seen) (m2 : Machine) (k2 : Kernel) (lines2 : List Seen) → i < length c.guests → SoFar i vs m1 k1.guests.items k1.marks lines1
+      → ServesAt i (scene m1 (record k { guests = k1.guests; marks = k1.marks }) lines1) vs (scene m2 k2 lines2) vs2 → SoFar (i + 1) vs2 m2 k2.guests.items k2.marks lines2
+  one_more i vs vs2 m1 k1 lines1 m2 k2 lines2 h x y = record {
     puts = x.puts ++ one.puts;
     guests = (λ j. done j ++ (sym later j).guests) ∙ append_assoc (take i gs1) (one.guest ∷ []) beyond.guests ∙ ap (λ (s : AllServed). take i gs1 ++ s.guests) (sym first) ∙ x.guests;
     volumes_are = ap (λ (s : AllServed). s.volumes) (sym later) ∙ ap (λ (s : AllServed). s.volumes) (sym first) ∙ x.volumes_are;
     puts_are = append_assoc x.puts one.puts (rest (i + 1) gs2 vs2).puts ∙ ap (λ (s : AllServed). x.puts ++ (one.puts ++ s.puts)) (sym later) ∙ ap (λ (s : AllServed). x.puts ++ s.puts) (sym first) ∙ x.puts_are;
-    shows = shows_same k.marks marks2 lines lines2 (λ j. bytes_on j x.puts ++ bytes_on j one.puts) (λ j. bytes_on j (x.puts ++ one.puts)) (λ j. sym (bytes_append j x.puts one.puts)) (shows_then x.shows y.shows);
+    shows = shows_same k.marks k2.marks lines lines2 (λ j. bytes_on j x.puts ++ bytes_on j one.puts) (λ j. bytes_on j (x.puts ++ one.puts)) (λ j. sym (bytes_append j x.puts one.puts)) (shows_then x.shows y.shows);
     placed = y.changes.stay;
     machine = y.machine ∙ (λ j. record (x.machine j) { memory = m2.memory });
     only = λ p beyond. y.changes.only p beyond ∙ x.only p beyond;
@@ -174,10 +178,10 @@ module _ (k : Kernel) (volumes : List (List (List ℕ))) (m : Machine) (lines : 
   }
     where
       gs1 : List Guest
-      gs1 = guests_in m1.memory ks1
+      gs1 = guests_in m1.memory k1.guests.items
 
       gs2 : List Guest
-      gs2 = guests_in m2.memory ks2
+      gs2 = guests_in m2.memory k2.guests.items
 
       one : Served
       one = all_packets c y.row y.units y.guest vs
@@ -197,10 +201,10 @@ module _ (k : Kernel) (volumes : List (List (List ℕ))) (m : Machine) (lines : 
       done : take (i + 1) gs2 ≡ take i gs1 ++ one.guest ∷ []
       done = ap (take (i + 1)) changes ∙ before_changed f gs1 i y.guest y.has_guest
 
-      one_touched : (ts : List Touching) → Reaches i vs m1 ks1 ts → Reaches (i + 1) vs2 m2 ks2 ts
+      one_touched : (ts : List Touching) → Reaches i vs m1 k1.guests.items ts → Reaches (i + 1) vs2 m2 k2.guests.items ts
       one_touched ts r =
-          let there : i < length ks1 = omega (arith, h, placed_long _ _ c.guests ks1 x.placed.laid_out) in
-          let (t, has_touch) = touch_there ks1 r.at i there r.has in
+          let there : i < length k1.guests.items = omega (arith, h, placed_long _ _ c.guests k1.guests.items x.placed.laid_out) in
+          let (t, has_touch) = touch_there k1.guests.items r.at i there r.has in
           let at2 : List Touching = changed (all_touched c y.row y.units y.guest vs) r.at i in
           let front : take (i + 1) at2 ≡ take i r.at ++ all_touched c y.row y.units y.guest vs t ∷ [] = before_changed (all_touched c y.row y.units y.guest vs) r.at i t has_touch in
           let back : drop (i + 1) at2 ≡ drop (i + 1) r.at = after_changed (all_touched c y.row y.units y.guest vs) r.at i in
@@ -217,21 +221,25 @@ module _ (k : Kernel) (volumes : List (List (List ℕ))) (m : Machine) (lines : 
       later : beyond ≡ rest (i + 1) gs2 vs2
       later = λ j. all_served c (drop (i + 1) c.guests) (drop (i + 1) before.mounts) (sym (ap (drop (i + 1)) changes ∙ after_changed f gs1 i) j) (sym y.volumes_are j)
 
+  -- it is a kernel still
+  pub kernel_still : (i : ℕ) (vs : List (List (List ℕ))) (m1 : Machine) (k1 : Kernel) (lines1 : List Seen) → IsKernel m.memory k → k1 ≡ record k { guests = k1.guests; marks = k1.marks } → SoFar i vs m1 k1.guests.items k1.marks lines1 → IsKernel m1.memory k1
+  kernel_still i vs m1 k1 lines1 holds is x = subst (λ (y : Kernel). IsKernel m1.memory y) (sym is) (record {
+    accepted = holds.accepted;
+    placed = x.placed;
+    terminals = holds.terminals;
+    guests = holds.guests;
+    consoles = holds.consoles;
+    beyond = holds.beyond;
+    mounts = holds.mounts;
+  })
+
   -- all are served
   pub all_guests_served : (i : ℕ) (vs : List (List (List ℕ))) (m1 : Machine) (k1 : Kernel) (lines1 : List Seen) → IsKernel m.memory k → length k.guests.items ≤ i → k1 ≡ record k { guests = k1.guests; marks = k1.marks } → SoFar i vs m1 k1.guests.items k1.marks lines1
-      → Leads (transfers c before) m k lines m1 k1 vs lines1
+      → Leads (transfers c before) (scene m k lines) (scene m1 k1 lines1) vs
   all_guests_served i vs m1 k1 lines1 holds over is x = record {
     state = (λ j. kernel_state m1.memory (is j) vs) ∙ (λ j. record before { guests = all_now j; volumes = (ap (λ (s : AllServed). s.volumes) (sym none) ∙ x.volumes_are) j });
     shows = shows_same k.marks k1.marks lines lines1 (λ j. bytes_on j x.puts) (λ j. bytes_on j whole.puts) (λ j. ap (bytes_on j) (sym (append-nil x.puts) ∙ ap (λ (s : AllServed). x.puts ++ s.puts) (sym none) ∙ x.puts_are)) x.shows;
-    holds = subst (λ (y : Kernel). IsKernel m1.memory y) (sym is) (record {
-      accepted = holds.accepted;
-      placed = x.placed;
-      terminals = holds.terminals;
-      guests = holds.guests;
-      consoles = holds.consoles;
-      beyond = holds.beyond;
-      mounts = holds.mounts;
-    });
+    holds = kernel_still i vs m1 k1 lines1 holds is x;
     config = ap (λ (y : Kernel). y.config) is;
     machine = x.machine;
     only = x.only;
@@ -276,25 +284,19 @@ module _ (k k1 : Kernel) (is : k1 ≡ record k { guests = k1.guests; marks = k1.
   same_config : k1.config ≡ k.config
   same_config = ap (λ (y : Kernel). y.config) is
 
-  pub config_same : IsConfig k.config → IsConfig k1.config
-  config_same accepted = subst (λ (y : Config). IsConfig y) (sym same_config) accepted
-
-  pub placed_same : (memory : List ℕ) (ks : List Kept) → AreInMachine k.config.guests memory ks → AreInMachine k1.config.guests memory ks
-  placed_same memory ks placed = subst (λ (y : Config). AreInMachine y.guests memory ks) (sym same_config) placed
-
   pub loop_there : (memory : List ℕ) (i : ℕ) → IsKernel memory k → i < length k.guests.items → i < length k.config.guests
   loop_there memory i holds h = let long : length k.guests.items ≡ length k.config.guests = placed_long _ _ k.config.guests k.guests.items holds.placed.laid_out in omega (arith, long, h)
 
   pub there_same : (memory : List ℕ) (i : ℕ) → IsKernel memory k → i < length k.guests.items → i < length k1.config.guests
   there_same memory i holds h = subst (λ (y : Config). i < length y.guests) (sym same_config) (loop_there memory i holds h)
 
-  pub mounts_same : (vs volumes : List (List (List ℕ))) → sizes vs ≡ sizes volumes → length volumes ≡ length k.config.volumes → All (AreUnits (length k.config.volumes)) k.server.mounts → All (AreUnits (length vs)) k1.server.mounts
-  mounts_same vs volumes same many all = subst (λ (y : Kernel). All (AreUnits (length vs)) y.server.mounts) (sym is) (subst (λ n. All (AreUnits n) k.server.mounts) (sym (as_many vs volumes same ∙ many)) all)
+  pub volumes_same : (vs volumes : List (List (List ℕ))) → sizes vs ≡ sizes volumes → length volumes ≡ length k.config.volumes → length vs ≡ length k1.config.volumes
+  volumes_same vs volumes same many = as_many vs volumes same ∙ many ∙ ap (λ (y : Config). length y.volumes) (sym same_config)
 
-  pub one_more_of : (volumes : List (List (List ℕ))) (m : Machine) (lines : List Seen) (i : ℕ) (vs vs2 : List (List (List ℕ))) (m1 : Machine) (lines1 : List Seen) (m2 : Machine) (ks2 : List Kept) (marks2 : List Bool) (lines2 : List Seen) → i < length k.config.guests → SoFar k volumes m lines i vs m1 k1.guests.items k1.marks lines1
-      → ServesAt k1.config k1.server.mounts i vs m1 k1.guests.items k1.marks lines1 vs2 m2 ks2 marks2 lines2 → SoFar k volumes m lines (i + 1) vs2 m2 ks2 marks2 lines2
-  one_more_of volumes m lines i vs vs2 m1 lines1 m2 ks2 marks2 lines2 h x y =
-      one_more k volumes m lines i vs vs2 m1 k1.guests.items k1.marks lines1 m2 ks2 marks2 lines2 h x (subst (λ (z : Kernel). ServesAt z.config z.server.mounts i vs m1 k1.guests.items k1.marks lines1 vs2 m2 ks2 marks2 lines2) is y)
+  pub one_more_of : (volumes : List (List (List ℕ))) (m : Machine) (lines : List Seen) (i : ℕ) (vs vs2 : List (List (List ℕ))) (m1 : Machine) (lines1 : List Seen) (m2 : Machine) (k2 : Kernel) (lines2 : List Seen) → i < length k.config.guests → SoFar k volumes m lines i vs m1 k1.guests.items k1.marks lines1
+      → ServesAt i (scene m1 k1 lines1) vs (scene m2 k2 lines2) vs2 → SoFar k volumes m lines (i + 1) vs2 m2 k2.guests.items k2.marks lines2
+  one_more_of volumes m lines i vs vs2 m1 lines1 m2 k2 lines2 h x y =
+      one_more k volumes m lines i vs vs2 m1 k1 lines1 m2 k2 lines2 h x (subst (λ (z : Kernel). ServesAt i (scene m1 z lines1) vs (scene m2 k2 lines2) vs2) is y)
 
 pub as_many_guests : (c : Config) (memory : List ℕ) (ks : List Kept) → AreInMachine c.guests memory ks → length ks ≡ length c.guests
 as_many_guests c memory ks placed = placed_long _ _ c.guests ks placed.laid_out

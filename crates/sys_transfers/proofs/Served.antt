@@ -18,7 +18,7 @@ use Rattle.sys_objects.specs.declared.records.Mount.{Mount}
 use Rattle.sys_state.specs.FirstTouches.{frames_by}
 use Rattle.sys_state.specs.Guests.{answered}
 use Rattle.sys_state.specs.Transfers.{Move, Packet, Prints, Reads, Refused, Served, Writes, move_of, moved, packet_at, printer_of, refused_block, to_print, to_read, to_write, unless_refused}
-use Rattle.sys_transfers.specs.Serves.{Carries, CarriesAll, MountsNameVolumes, PrintsOf, ServesOne, carried, carried_volumes, frames_carried, frames_served, job_by, job_on, move_status, one_packet}
+use Rattle.sys_transfers.specs.Serves.{Carries, CarriesAll, MountsNameVolumes, PrintsOf, ServesOne, carried, carried_volumes, frames_carried, frames_served, guest_scene, job_by, job_on, move_status, one_packet}
 use Rattle.sys_transfers.proofs.Composing.{becomes_as, becomes_same, becomes_then, memory_size}
 use Rattle.sys_transfers.proofs.Dropping.{dropped_within, status_frames}
 
@@ -63,9 +63,9 @@ module _ (space : ℕ) (volumes : List (List (List ℕ))) (mounts : List (Option
 
 -- a move in another form
 pub carries_all : (row : GuestRow) (mounts : List (Option Mount)) (p : Packet) (move : Move) (volumes volumes' : List (List (List ℕ))) (m : Machine) (k : Kept) (status : ℕ) (job : Option (List ℕ)) (m' : Machine) (k' : Kept) → move_of (512 * k.state.pages) volumes mounts p ≡ move
-    → Carries move p volumes volumes' m k status m' k' → job ≡ job_by row p (guest_in m.memory k) move → CarriesAll row mounts p volumes volumes' m k status job m' k'
+    → Carries move p (guest_scene volumes m k) status (guest_scene volumes' m' k') → job ≡ job_by row p (guest_in m.memory k) move → CarriesAll row mounts p (guest_scene volumes m k) (status, job) (guest_scene volumes' m' k')
 carries_all row mounts p move volumes volumes' m k status job m' k' is carries printed = record {
-  carries = subst (λ (x : Move). Carries x p volumes volumes' m k status m' k') (sym is) carries;
+  carries = subst (λ (x : Move). Carries x p (guest_scene volumes m k) status (guest_scene volumes' m' k')) (sym is) carries;
   job_is = printed ∙ ap (job_by row p (guest_in m.memory k)) (sym is);
 }
 
@@ -101,7 +101,7 @@ status_dropped at status bytes k k1 k2 is drops turns aligned =
 
 -- the whole
 pub serves_one : (row : GuestRow) (mounts : List (Option Mount)) (at : ℕ) (p : Packet) (volumes volumes' : List (List (List ℕ))) (m : Machine) (k : Kept) (status : ℕ) (job : Option (List ℕ)) (m1 : Machine) (k1 : Kept) (m2 : Machine) (k2 : Kept) → IsShadowedIn m.memory k → p ≡ packet_at (guest_in m.memory k).memory at
-    → CarriesAll row mounts p volumes volumes' m k status job m1 k1 → Becomes (answered at status (guest_in m1.memory k1)) m1 k1 m2 k2 → (at % 4 ≡ 0 → Drops (frame_at (status_place at) ∷ []) k1.shadow k2.shadow) → ServesOne row mounts at volumes volumes' m k job m2 k2
+    → CarriesAll row mounts p (guest_scene volumes m k) (status, job) (guest_scene volumes' m1 k1) → Becomes (answered at status (guest_in m1.memory k1)) m1 k1 m2 k2 → (at % 4 ≡ 0 → Drops (frame_at (status_place at) ∷ []) k1.shadow k2.shadow) → ServesOne row mounts at (guest_scene volumes m k) job (guest_scene volumes' m2 k2)
 serves_one row mounts at p volumes volumes' m k status job m1 k1 m2 k2 stands read all answer answered_drops = record {
   becomes = λ c. becomes_as (answered at status (guest_in m1.memory k1)) (one_packet c row mounts (guest_in m.memory k) at volumes).guest m k m2 k2 (same c) whole;
   volumes_are = λ c. all.carries.volumes_are ∙ one_volumes c row mounts (guest_in m.memory k) at p volumes (512 * k.state.pages) read size;
@@ -150,7 +150,7 @@ print_changes space p volumes g = by (nat_lt 132 p.size) (is_past space p.buffer
     by false true = (refl, refl)
     by false false = (refl, refl)
 
-pub prints_only : (row : GuestRow) (space : ℕ) (p : Packet) (volumes : List (List (List ℕ))) (m : Machine) (k : Kept) (status : ℕ) (job : Option (List ℕ)) → IsShadowedIn m.memory k → PrintsOf row p (guest_in m.memory k) (to_print space p) status job → Carries (to_print space p) p volumes volumes m k status m k
+pub prints_only : (row : GuestRow) (space : ℕ) (p : Packet) (volumes : List (List (List ℕ))) (m : Machine) (k : Kept) (status : ℕ) (job : Option (List ℕ)) → IsShadowedIn m.memory k → PrintsOf row p (guest_in m.memory k) (to_print space p) status job → Carries (to_print space p) p (guest_scene volumes m k) status (guest_scene volumes m k)
 prints_only row space p volumes m k status job stands printed =
     let same = print_changes space p volumes (guest_in m.memory k) in
     record {

@@ -47,12 +47,25 @@ frames_carried (Reads v) p = frame_at p.buffer ∷ frame_at (p.buffer + 511) ∷
 frames_carried (Writes v) p = []
 frames_carried Prints p = []
 
+-- where a guest's packets are served: the volumes, the machine, and the guest in it
+pub record GuestScene : Type 0 where
+  pub volumes : List (List (List ℕ))
+  pub machine : Machine
+  pub guest : Kept
+
+abbrev pub guest_scene : List (List (List ℕ)) → Machine → Kept → GuestScene
+guest_scene volumes m k = record { volumes = volumes; machine = m; guest = k }
+
+-- the guest as it stands there
+abbrev pub guest_there : GuestScene → Guest
+guest_there s = guest_in s.machine.memory s.guest
+
 -- A move is made, but for the answer. What is dropped was read from a frame that it writes.
-pub record Carries (move : Move) (p : Packet) (volumes volumes' : List (List (List ℕ))) (m : Machine) (k : Kept) (status : ℕ) (m' : Machine) (k' : Kept) : Type 0 where
+pub record Carries (move : Move) (p : Packet) (before : GuestScene) (status : ℕ) (after : GuestScene) : Type 0 where
   pub status_is : status ≡ move_status move
-  pub becomes : Becomes (carried move p volumes (guest_in m.memory k)) m k m' k'
-  pub volumes_are : volumes' ≡ carried_volumes move p volumes (guest_in m.memory k)
-  pub drops : Drops (frames_carried move p) k.shadow k'.shadow
+  pub becomes : Becomes (carried move p before.volumes (guest_there before)) before.machine before.guest after.machine after.guest
+  pub volumes_are : after.volumes ≡ carried_volumes move p before.volumes (guest_there before)
+  pub drops : Drops (frames_carried move p) before.guest.shadow after.guest.shadow
 
 -- what a printer gets of a job, if there is one
 abbrev pub job_on : Option PrinterRow → Option (List ℕ) → List Put
@@ -71,10 +84,14 @@ pub record PrintsOf (row : GuestRow) (p : Packet) (g : Guest) (move : Move) (sta
   pub status_is : status ≡ move_status move
   pub job_is : job ≡ job_by row p g move
 
--- the move that a packet asks for, with the job that is printed
-pub record CarriesAll (row : GuestRow) (mounts : List (Option Mount)) (p : Packet) (volumes volumes' : List (List (List ℕ))) (m : Machine) (k : Kept) (status : ℕ) (job : Option (List ℕ)) (m' : Machine) (k' : Kept) : Type 0 where
-  pub carries : Carries (move_of (512 * k.state.pages) volumes mounts p) p volumes volumes' m k status m' k'
-  pub job_is : job ≡ job_by row p (guest_in m.memory k) (move_of (512 * k.state.pages) volumes mounts p)
+-- the move that a packet asks for
+abbrev pub move_there : List (Option Mount) → Packet → GuestScene → Move
+move_there mounts p s = move_of (512 * s.guest.state.pages) s.volumes mounts p
+
+-- it is made, with its status and the job that is printed
+pub record CarriesAll (row : GuestRow) (mounts : List (Option Mount)) (p : Packet) (before : GuestScene) (answer : ℕ × Option (List ℕ)) (after : GuestScene) : Type 0 where
+  pub carries : Carries (move_there mounts p before) p before answer.0 after
+  pub job_is : answer.1 ≡ job_by row p (guest_there before) (move_there mounts p before)
 
 -- the packet at an address, served
 unfoldable pub one_packet : Config → GuestRow → List (Option Mount) → Guest → ℕ → List (List (List ℕ)) → Served
@@ -88,11 +105,11 @@ frames_served mounts g at volumes =
 
 -- The packet at an address is served, and its text is what the guest's printer gets. A packet's address is a multiple of 4:
 -- then what is dropped was read from a frame that is written for it.
-pub record ServesOne (row : GuestRow) (mounts : List (Option Mount)) (at : ℕ) (volumes volumes' : List (List (List ℕ))) (m : Machine) (k : Kept) (job : Option (List ℕ)) (m' : Machine) (k' : Kept) : Type 0 where
-  pub becomes : (c : Config) → Becomes (one_packet c row mounts (guest_in m.memory k) at volumes).guest m k m' k'
-  pub volumes_are : (c : Config) → volumes' ≡ (one_packet c row mounts (guest_in m.memory k) at volumes).volumes
-  pub shows : (c : Config) → (one_packet c row mounts (guest_in m.memory k) at volumes).puts ≡ job_on (printer_of c row.printer) job
-  pub drops : at % 4 ≡ 0 → Drops (frames_served mounts (guest_in m.memory k) at volumes) k.shadow k'.shadow
+pub record ServesOne (row : GuestRow) (mounts : List (Option Mount)) (at : ℕ) (before : GuestScene) (job : Option (List ℕ)) (after : GuestScene) : Type 0 where
+  pub becomes : (c : Config) → Becomes (one_packet c row mounts (guest_there before) at before.volumes).guest before.machine before.guest after.machine after.guest
+  pub volumes_are : (c : Config) → after.volumes ≡ (one_packet c row mounts (guest_there before) at before.volumes).volumes
+  pub shows : (c : Config) → (one_packet c row mounts (guest_there before) at before.volumes).puts ≡ job_on (printer_of c row.printer) job
+  pub drops : at % 4 ≡ 0 → Drops (frames_served mounts (guest_there before) at before.volumes) before.guest.shadow after.guest.shadow
 
 -- the packet that the code has read
 abbrev pub packet_of : Request → Packet

@@ -1,14 +1,16 @@
-ghost use Rattle.std.specs.Prelude.{◌<◌, length, All};
-ghost use Rattle.sys_guests.specs.Kernel.{AreUnits};
-ghost use Rattle.sys_guests.specs.Layout.{AreInMachine};
-ghost use Rattle.sys_objects.specs.Condition.{IsConfig, IsPrinter};
-ghost use Rattle.sys_transfers.specs.Serves.{MountsNameVolumes};
-ghost use Rattle.sys_transfers.specs.ServesAll.{ServesAt, ServesGuest};
-ghost use Rattle.vm_guest.specs.Kept.{IsShadowedIn};
+ghost use Rattle.std.specs.Prelude.{◌≡◌, ◌<◌, length, All};
+ghost use Rattle.sys_devices.specs.Shows.{Shows};
+ghost use Rattle.sys_guests.specs.Kernel.{IsKernel, scene};
+ghost use Rattle.sys_objects.specs.Condition.{IsPrinter};
+ghost use Rattle.sys_state.specs.State.{bytes_on};
+ghost use Rattle.sys_transfers.specs.Serves.{MountsNameVolumes, guest_scene};
+ghost use Rattle.sys_transfers.specs.ServesAll.{ServesAt, ServesGuest, all_packets};
+ghost use Rattle.vm_guest.specs.Kept.{IsShadowedIn, guest_in};
 
 use crate::printing::print_job_on;
 use crate::serving::serve;
 use sys_devices::Marks;
+use sys_guests::Kernel;
 use sys_objects::{Config, GuestRow, Mount};
 use sys_store::Volumes;
 use vax_hw::Hardware;
@@ -29,7 +31,12 @@ fn serve_guest<H: Hardware, L: Lines>(
     requires stands { IsShadowedIn (H.machine machine.old).memory guest.old }
     requires mounted { MountsNameVolumes units.now volumes.old }
     requires printers { All IsPrinter config.now.printers }
-    ensures { ServesGuest config.now row.now units.now volumes.old (H.machine machine.old) guest.old marks.old (L.lines lines.old) volumes.new (H.machine machine.new) guest.new marks.new (L.lines lines.new) }
+    ensures serves { ServesGuest config.now row.now units.now
+        (guest_scene volumes.old (H.machine machine.old) guest.old)
+        (guest_scene volumes.new (H.machine machine.new) guest.new) }
+    ensures shows { Shows marks.old marks.new (L.lines lines.old) (L.lines lines.new)
+        (λ line. bytes_on line (all_packets config.now row.now units.now
+        (guest_in (H.machine machine.old).memory guest.old) volumes.old).puts) }
 {
     let queue = guest.take_queue();
     for packet in queue.as_slice() {
@@ -41,22 +48,21 @@ fn serve_guest<H: Hardware, L: Lines>(
 /// The packets of the guest at a place are served.
 pub fn serve_at<H: Hardware, L: Lines>(
     machine: &mut H,
-    marks: &mut Marks,
     lines: &mut L,
-    guests: &mut Vec<Guest>,
-    config: &Config,
-    mounts: &[[Option<Mount>; 4]; 16],
+    kernel: &mut Kernel,
     volumes: &mut Volumes,
     place: usize,
 )
-    requires accepted { IsConfig config.now }
-    requires there { place < length config.now.guests }
-    requires placed { AreInMachine config.now.guests (H.machine machine.old).memory guests.old.items }
-    requires mounted { All (AreUnits (length volumes.old)) mounts.now }
-    ensures { ServesAt config.now mounts.now place volumes.old (H.machine machine.old) guests.old.items marks.old (L.lines lines.old) volumes.new (H.machine machine.new) guests.new.items marks.new (L.lines lines.new) }
+    requires holds { IsKernel (H.machine machine.old).memory kernel.old }
+    requires there { place < length kernel.old.config.guests }
+    requires volumes { length volumes.old ≡ length kernel.old.config.volumes }
+    ensures { ServesAt place (scene (H.machine machine.old) kernel.old (L.lines lines.old)) volumes.old
+        (scene (H.machine machine.new) kernel.new (L.lines lines.new)) volumes.new }
 {
+    let config = &kernel.config;
     let row = &config.guests.as_slice()[place];
-    let units = &mounts[place];
-    let guest = &mut guests[place];
-    serve_guest(machine, marks, lines, guest, config, row, units, volumes);
+    let units = kernel.server.mounts[place];
+    let guest = &mut kernel.guests[place];
+    let marks = &mut kernel.marks;
+    serve_guest(machine, marks, lines, guest, config, row, &units, volumes);
 }

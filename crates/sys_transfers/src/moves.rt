@@ -1,7 +1,7 @@
 ghost use Rattle.std.specs.Prelude.{◌≡◌, ◌+◌, ◌*◌, ◌<◌, ◌≤◌, IfSome, length};
 ghost use Rattle.sys_store.specs.Job.{job_text};
 ghost use Rattle.sys_state.specs.Transfers.{to_print, to_read, to_write};
-ghost use Rattle.sys_transfers.specs.Serves.{Carries, PrintsOf, packet_of};
+ghost use Rattle.sys_transfers.specs.Serves.{Carries, PrintsOf, guest_scene, packet_of};
 ghost use Rattle.vm_guest.specs.Kept.{IsShadowedIn, guest_in};
 ghost use Rattle.vm_state.specs.Outside.{bytes_at};
 
@@ -49,7 +49,9 @@ pub fn read<H: Hardware>(
 ) -> u32
     requires stands { IsShadowedIn (H.machine machine.old).memory guest.old }
     requires mounted { IfSome unit (λ x. x.volume < length volumes.now) }
-    ensures { Carries (to_read (512 * guest.old.state.pages) volumes.now unit (packet_of p.now)) (packet_of p.now) volumes.now volumes.now (H.machine machine.old) guest.old result (H.machine machine.new) guest.new }
+    ensures { Carries (to_read (512 * guest.old.state.pages) volumes.now unit (packet_of p.now)) (packet_of p.now)
+        (guest_scene volumes.now (H.machine machine.old) guest.old) result
+        (guest_scene volumes.now (H.machine machine.new) guest.new) }
 {
     let Some(mount) = unit else {
         return NO_UNIT;
@@ -78,7 +80,9 @@ pub fn write<H: Hardware>(
 ) -> u32
     requires stands { IsShadowedIn (H.machine machine.now).memory guest.now }
     requires mounted { IfSome unit (λ x. x.volume < length volumes.old) }
-    ensures { Carries (to_write (512 * guest.now.state.pages) volumes.old unit (packet_of p.now)) (packet_of p.now) volumes.old volumes.new (H.machine machine.now) guest.now result (H.machine machine.now) guest.now }
+    ensures { Carries (to_write (512 * guest.now.state.pages) volumes.old unit (packet_of p.now)) (packet_of p.now)
+        (guest_scene volumes.old (H.machine machine.now) guest.now) result
+        (guest_scene volumes.new (H.machine machine.now) guest.now) }
 {
     let Some(mount) = unit else {
         return NO_UNIT;
@@ -119,7 +123,8 @@ pub fn print<H: Hardware>(
     p: &Request,
 ) -> (u32, Option<Text<640>>)
     requires stands { IsShadowedIn (H.machine machine.now).memory guest.now }
-    ensures { PrintsOf row.now (packet_of p.now) (guest_in (H.machine machine.now).memory guest.now) (to_print (512 * guest.now.state.pages) (packet_of p.now)) result.0 result.1 }
+    ensures { PrintsOf row.now (packet_of p.now) (guest_in (H.machine machine.now).memory guest.now)
+        (to_print (512 * guest.now.state.pages) (packet_of p.now)) result.0 result.1 }
 {
     if MOST_PRINTED < p.size {
         return (NO_MEMORY, None);

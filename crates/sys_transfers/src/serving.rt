@@ -1,6 +1,6 @@
 ghost use Rattle.std.specs.Prelude.{◌≡◌, ◌+◌, ◌*◌, ◌%◌, ◌≤◌, [], ◌∷◌, None, slice_index_or};
 ghost use Rattle.sys_state.specs.Guests.{answered};
-ghost use Rattle.sys_transfers.specs.Serves.{CarriesAll, MountsNameVolumes, ServesOne, packet_of};
+ghost use Rattle.sys_transfers.specs.Serves.{CarriesAll, MountsNameVolumes, ServesOne, guest_scene, packet_of};
 ghost use Rattle.vm_guest.specs.Kept.{Becomes, IsShadowedIn, guest_in};
 ghost use Rattle.vm_simulation_laws.specs.Moves.{Drops};
 ghost use Rattle.vm_state.specs.Packets.{status_place};
@@ -31,7 +31,8 @@ fn mount_at(mounts: &[Option<Mount>; 4], unit: u32) -> Option<Mount>
 fn answer<H: Hardware>(machine: &mut H, guest: &mut Guest, at: u32, status: u32)
     requires stands { IsShadowedIn (H.machine machine.old).memory guest.old }
     requires inside { at + 24 ≤ 512 * guest.old.state.pages }
-    ensures becomes { Becomes (answered at status (guest_in (H.machine machine.old).memory guest.old)) (H.machine machine.old) guest.old (H.machine machine.new) guest.new }
+    ensures becomes { Becomes (answered at status (guest_in (H.machine machine.old).memory guest.old))
+        (H.machine machine.old) guest.old (H.machine machine.new) guest.new }
     ensures drops { at % 4 ≡ 0 → Drops (frame_at (status_place at) ∷ []) guest.old.shadow guest.new.shadow }
 {
     let mut bytes = [0; 4];
@@ -51,7 +52,9 @@ fn carry<H: Hardware>(
 ) -> (u32, Option<Text<640>>)
     requires stands { IsShadowedIn (H.machine machine.old).memory guest.old }
     requires mounted { MountsNameVolumes mounts.now volumes.old }
-    ensures { CarriesAll row.now mounts.now (packet_of p.now) volumes.old volumes.new (H.machine machine.old) guest.old result.0 result.1 (H.machine machine.new) guest.new }
+    ensures { CarriesAll row.now mounts.now (packet_of p.now)
+        (guest_scene volumes.old (H.machine machine.old) guest.old) result
+        (guest_scene volumes.new (H.machine machine.new) guest.new) }
 {
     let mount = mount_at(mounts, p.unit);
     match p.function {
@@ -75,7 +78,8 @@ pub fn serve<H: Hardware>(
     requires stands { IsShadowedIn (H.machine machine.old).memory guest.old }
     requires inside { at + 24 ≤ 512 * guest.old.state.pages }
     requires mounted { MountsNameVolumes mounts.now volumes.old }
-    ensures { ServesOne row.now mounts.now at volumes.old volumes.new (H.machine machine.old) guest.old result (H.machine machine.new) guest.new }
+    ensures { ServesOne row.now mounts.now at (guest_scene volumes.old (H.machine machine.old) guest.old) result
+        (guest_scene volumes.new (H.machine machine.new) guest.new) }
 {
     let p = request_at(machine, guest, at);
     let (status, job) = carry(machine, guest, row, mounts, volumes, &p);

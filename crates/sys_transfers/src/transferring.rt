@@ -1,5 +1,5 @@
 ghost use Rattle.std.specs.Prelude.{◌≡◌, length, map};
-ghost use Rattle.sys_guests.specs.Kernel.{IsKernel, Leads, kernel_state};
+ghost use Rattle.sys_guests.specs.Kernel.{IsKernel, Leads, kernel_state, scene};
 ghost use Rattle.sys_guests.specs.Layout.{guests_in};
 ghost use Rattle.sys_guests.specs.Present.{KeepsAll};
 ghost use Rattle.sys_state.specs.FirstTouches.{touches_of_transfers};
@@ -20,20 +20,15 @@ pub fn transfer<H: Hardware, L: Lines>(
 )
     requires holds { IsKernel (H.machine machine.old).memory kernel.old }
     requires volumes { length volumes.old ≡ length kernel.old.config.volumes }
-    ensures leads { Leads (transfers kernel.old.config (kernel_state (H.machine machine.old).memory kernel.old volumes.old)) (H.machine machine.old) kernel.old (L.lines lines.old) (H.machine machine.new) kernel.new volumes.new (L.lines lines.new) }
+    ensures leads { Leads (transfers kernel.old.config (kernel_state
+        (H.machine machine.old).memory kernel.old volumes.old)) (scene (H.machine machine.old) kernel.old (L.lines lines.old)) (scene (H.machine machine.new) kernel.new (L.lines lines.new)) volumes.new }
     ensures sizes { map length volumes.new ≡ map length volumes.old }
-    ensures present { KeepsAll (touches_of_transfers kernel.old.config kernel.old.config.guests (kernel_state (H.machine machine.old).memory kernel.old volumes.old).mounts (guests_in (H.machine machine.old).memory kernel.old.guests.items) volumes.old) kernel.old.guests.items kernel.new.guests.items }
+    ensures present { KeepsAll (touches_of_transfers kernel.old.config kernel.old.config.guests
+        (kernel_state (H.machine machine.old).memory kernel.old volumes.old).mounts
+        (guests_in (H.machine machine.old).memory kernel.old.guests.items) volumes.old) kernel.old.guests.items
+        kernel.new.guests.items }
 {
     for place in 0..kernel.guests.len() {
-        serve_at(
-            machine,
-            &mut kernel.marks,
-            lines,
-            &mut kernel.guests,
-            &kernel.config,
-            &kernel.server.mounts,
-            volumes,
-            place,
-        );
+        serve_at(machine, lines, kernel, volumes, place);
     }
 }

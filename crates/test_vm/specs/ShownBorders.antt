@@ -43,8 +43,8 @@ pub last_bytes :
     × (last_of 0x800 1 ≡ 0x800)
     × (last_of 0x800 2 ≡ 0x801)
     -- of length 0 the base alone, and not the byte before it
-    × (after (step (probing 0)) [] ≡ seen (Plain 0x80001224) 0 0x800 0x80000800 0x204 0 [])
-    × (after (step (probing 1)) [] ≡ seen (Plain 0x80001224) 0 0x800 0x80000800 0x204 0 [])
+    × (after (step (probing 0)) [] ≡ seen (Plain 0x80001224) (0 ∷ 0x800 ∷ 0x80000800 ∷ 0x204 ∷ []) 0 [])
+    × (after (step (probing 1)) [] ≡ seen (Plain 0x80001224) (0 ∷ 0x800 ∷ 0x80000800 ∷ 0x204 ∷ []) 0 [])
 unfolding whole_step
 last_bytes = (refl, refl, refl, refl, refl)
 

@@ -108,13 +108,15 @@ fn a_line_is_read_back_and_written_on(rt: HostRuntime) -> Result<(), Fail> {
 }
 
 #[test]
-fn standard_input_gives_lines(rt: HostRuntime) {
+fn standard_input_gives_lines(rt: HostRuntime) -> Result<(), Fail> {
+    let out = OutSink::new(rt.stdout(), None);
     let mut keys = InputKeys::new(b"ab\r\nc\n\nd".as_slice());
     for line in [b"ab".as_slice(), b"c", b"", b"d"] {
-        let given = keys.next().expect(&rt, "a line");
+        let given = keys.next(&out).expect(&rt, "a line");
         assert!(rt; given.is_some_and(|given| given.bytes() == line));
     }
-    assert!(rt; matches!(keys.next(), Ok(None)));
+    assert!(rt; matches!(keys.next(&out), Ok(None)));
+    Ok(())
 }
 
 #[test]

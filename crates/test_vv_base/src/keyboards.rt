@@ -1,7 +1,7 @@
 use std::alloc::Global;
 use std::process::Abort;
 use std::test::Fail;
-use vv_io::{KeyFault, Keyboard, MemKeyboard};
+use vv_io::{KeyFault, Keyboard, MemKeyboard, MemLine};
 
 /// A line of 1,025 bytes, the last of them another.
 fn long_line(alloc: Global) -> Result<Vec<u8>, Fail> {
@@ -11,7 +11,7 @@ fn long_line(alloc: Global) -> Result<Vec<u8>, Fail> {
 }
 
 /// A keyboard of three lines, of which the second is long, and whose second call fails.
-fn keyboard(alloc: Global) -> Result<MemKeyboard, Fail> {
+fn keyboard(alloc: Global) -> Result<MemKeyboard<MemLine>, Fail> {
     let mut lines = Vec::new(alloc);
     lines.push(b"first".to_vec(alloc)?)?;
     lines.push(long_line(alloc)?)?;
@@ -22,8 +22,11 @@ fn keyboard(alloc: Global) -> Result<MemKeyboard, Fail> {
 }
 
 /// The length of the next line and its last byte, or the fault.
-fn next_line(keyboard: &mut dyn Keyboard) -> Result<Option<(usize, Option<u8>)>, KeyFault> {
-    let line = keyboard.next()?;
+fn next_line(
+    keyboard: &mut MemKeyboard<MemLine>,
+    out: &MemLine,
+) -> Result<Option<(usize, Option<u8>)>, KeyFault> {
+    let line = keyboard.next(out)?;
     Ok(line.map(|line| (line.bytes().len(), line.bytes().last().copied())))
 }
 
@@ -40,8 +43,9 @@ static ANSWERS: [Result<Option<(usize, Option<u8>)>, KeyFault>; 6] = [
 #[test]
 fn lines_are_given_in_order(rt: HostRuntime) -> Result<(), Fail> {
     let mut keyboard = keyboard(rt.alloc())?;
+    let out = MemLine::new(rt.alloc(), 1, Vec::new(rt.alloc()))?;
     for answer in &ANSWERS {
-        assert!(rt; next_line(&mut keyboard) == *answer);
+        assert!(rt; next_line(&mut keyboard, &out) == *answer);
     }
     Ok(())
 }

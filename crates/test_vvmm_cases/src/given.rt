@@ -140,7 +140,7 @@ struct Outside {
     shelf: MemShelf,
     lines: LineList<MemLine>,
     out: MemLine,
-    keyboard: MemKeyboard,
+    keyboard: MemKeyboard<MemLine>,
     errors: MemLine,
 }
 
@@ -229,7 +229,7 @@ impl<'t> Given<'t> {
     }
 
     /// The keyboard.
-    fn keyboard(&self, alloc: Global) -> Result<MemKeyboard, NoMemory> {
+    fn keyboard(&self, alloc: Global) -> Result<MemKeyboard<MemLine>, NoMemory> {
         let lines = key_lines(alloc, self.keys.as_slice())?;
         Ok(MemKeyboard::new(lines, at_most_one(alloc, self.broken)?))
     }

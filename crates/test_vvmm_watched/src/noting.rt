@@ -109,16 +109,16 @@ impl Line for Kept {
 /// A keyboard in memory that notes each call, but whose lines aren't known.
 #[derive(Drop)]
 struct Keys {
-    keyboard: MemKeyboard,
+    keyboard: MemKeyboard<Noting>,
     noting: Noting,
 }
 
-impl Keyboard for Keys {
-    ghost keys = { λ k. record { coming = None; faults = 0 } };
+impl Keyboard<Noting> for Keys {
+    ghost keys = { λ k. record { coming = None; faults = 0; outputs = k.keyboard.outputs } };
 
-    fn next(&mut self) -> Result<Option<KeyLine>, KeyFault> {
+    fn next(&mut self, out: &Noting) -> Result<Option<KeyLine>, KeyFault> {
         self.noting.note(0);
-        match self.keyboard.next() {
+        match self.keyboard.next(out) {
             Ok(line) => Ok(line),
             Err(KeyFault) => Ok(None),
         }

@@ -51,7 +51,8 @@ pub(crate) fn put_operands(
 ) -> Result<(), AsmError>
     requires fit { AreFit forms.now (map operand_view operands.now) }
     requires low { at + 16 * length forms.now ≤ 4000000000 }
-    ensures { AppendsOrRefuses line bytes.old.items bytes.new.items (operands_bytes (label_address labels.now) at forms.now (map operand_view operands.now)) result }
+    ensures { AppendsOrRefuses line bytes.old.items bytes.new.items
+        (operands_bytes (label_address labels.now) at forms.now (map operand_view operands.now)) result }
 {
     if let [form, other_forms @ ..] = forms
         && let [operand, others @ ..] = operands

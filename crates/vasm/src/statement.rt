@@ -51,7 +51,8 @@ fn put_instruction(
 ) -> Result<(), AsmError>
     requires fit { AreFit (forms_of opcode) (map operand_view operands.now) }
     requires low { at ≤ 3000000000 }
-    ensures { AppendsOrRefuses line bytes.old.items bytes.new.items (known_statement_bytes (label_address labels.now) at (Instruct opcode (map operand_view operands.now))) result }
+    ensures { AppendsOrRefuses line bytes.old.items bytes.new.items
+        (known_statement_bytes (label_address labels.now) at (Instruct opcode (map operand_view operands.now))) result }
 {
     put_opcode(bytes, opcode)?;
     put_operands(

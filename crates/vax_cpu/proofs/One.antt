@@ -1,9 +1,8 @@
 -- One instruction, by what was found.
 use Rattle.std.proofs.Common.{◌≡◌, ℕ, suc, ◌%◌, ◌^◌, Bool, true, List, [], length, Option, Some, None, Result, Ok, Err, refl, ap, sym, ◌∙◌, subst, arith, slice_index}
 use Rattle.vax_arch.specs.declared.mode.Intent.{Intent}
-use Rattle.vax_hw.specs.Machine.{Machine, is_real_bit_clear, machine_space, machine_tables, psw_of, retire, seen_psl}
-use Rattle.vax_hw.specs.Real.{going_on, in_kernel, machine_step, misses_after, real, retired_by_probe, retired_by_try}
-use Rattle.vax_hw.specs.RealTables.{real_probe}
+use Rattle.vax_hw.specs.Machine.{Machine, is_real_bit_clear, machine_space, psw_of, retire, seen_psl}
+use Rattle.vax_hw.specs.Real.{going_on, in_kernel, machine_step, misses_after, real, real_probe, retired_by_probe, retired_by_try}
 use Rattle.vax_hw.specs.declared.world.Exit.{Exit}
 use Rattle.vax_hw.specs.declared.world.Exit.TheVariants.{Arithmetic}
 use Rattle.vv_base.specs.declared.width.Width.TheVariants.{Quad}
@@ -77,7 +76,7 @@ by_probe m opcode i o None = refl
 completed_settled : (m : Machine) (opcode : ℕ) (a : Act) → completed m opcode a ≡ retired_by m opcode (settled m.memory m.world a)
 completed_settled m opcode (Plain e) = by_clear m opcode e (first_clear (is_clear_for m.memory m.world) (bytes_of_stores e.writes))
 completed_settled m opcode (Traps t) = refl
-completed_settled m opcode (Probes i o) = by_probe m opcode i o (real_probe m.memory (machine_tables m.world) m.world.psl.0 i (long_of o 0) (long_of o 1) (long_of o 2))
+completed_settled m opcode (Probes i o) = by_probe m opcode i o (real_probe m.memory m.world i (long_of o 0) (long_of o 1) (long_of o 2))
 
 with_opcode_retired : (m : Machine) (opcode : ℕ) (x : Result Effect Exit) → retired_by m opcode x ≡ retired_from m (with_opcode opcode x)
 with_opcode_retired m opcode (Ok e) = refl

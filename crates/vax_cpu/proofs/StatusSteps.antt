@@ -1,8 +1,7 @@
 -- MOVPSL and PROBE in normal form, at an address where they are fetched.
 use Rattle.std.proofs.Common.{◌≡◌, ℕ, ◌+◌, ◌*◌, ◌/◌, ◌%◌, ◌^◌, Bool, not, List, length, Some, None, Result, Ok, refl, ap, sym, ◌∙◌, arith, slice_index}
-use Rattle.vax_hw.specs.Machine.{Machine, machine_tables, psw_of, seen_psl}
-use Rattle.vax_hw.specs.Real.{in_kernel, machine_step}
-use Rattle.vax_hw.specs.RealTables.{real_probe}
+use Rattle.vax_hw.specs.Machine.{Machine, psw_of, seen_psl}
+use Rattle.vax_hw.specs.Real.{in_kernel, machine_step, real_probe}
 use Rattle.vax_table.specs.Arithmetic.{bit_of}
 use Rattle.vax_table.specs.Effects.{Effect, long_of}
 use Rattle.vax_table.specs.Fetch.{fetched}
@@ -58,7 +57,7 @@ pub seen_status : (m : Machine) → seen_psl m.world % 2 ^ 8 ≡ psw_of m.world
 seen_status m = omega arith
 
 pub probe_steps : (m after : Machine) (r : List ℕ) (d : Instruction) (n : ProbeTest) (b : Bool) (psw : ℕ) → IsProbeTest n d → length r ≡ 16 → Ok d ≡ exits (outcome (paged m.memory m.world) (fetched (slice_index r 15))) →
-    Some b ≡ real_probe m.memory (machine_tables m.world) m.world.psl.0 n.intent (number_by n.mode r) (number_by n.bytes r) (number_by n.base r) → psw ≡ psw_of m.world / 16 * 16 + 4 * bit_of (not b) + psw_of m.world % 2 →
+    Some b ≡ real_probe m.memory m.world n.intent (number_by n.mode r) (number_by n.bytes r) (number_by n.base r) → psw ≡ psw_of m.world / 16 * 16 + 4 * bit_of (not b) + psw_of m.world % 2 →
     after ≡ completed_but_registers (slice_index r 15) d.opcode (quietly (past_own_bytes n.length r) psw) m → machine_step (with_registers r m) ≡ Ok (record { machine = with_registers (past_own_bytes n.length r) after; trap = None })
 unfolding acted
 probe_steps m after r d n b psw (op, tests) sixteen fetch judges codes is =
@@ -73,7 +72,7 @@ probe_steps m after r d n b psw (op, tests) sixteen fetch judges codes is =
     let acts : outcome t (acted (in_kernel m.world) (seen_psl m.world) d r) ≡ Ok found =
     ap (λ (x : Operation). outcome t (acted_by (in_kernel m.world) (seen_psl m.world) x d r)) op
     ∙ found_on t (operands_of d r) (λ x. Done (meant d.opcode (Probes n.intent x))) o found had.0 refl in
-    let judged : real_probe m.memory (machine_tables m.world) m.world.psl.0 n.intent (long_of o 0) (long_of o 1) (long_of o 2) ≡ Some b = rw (mode, bytes, base) (sym judges) in
+    let judged : real_probe m.memory m.world n.intent (long_of o 0) (long_of o 1) (long_of o 2) ≡ Some b = rw (mode, bytes, base) (sym judges) in
     let settles : settled m.memory m.world (Probes n.intent o) ≡ Ok (quietly (past_own_bytes n.length r) psw) =
     ap (by_judgement n.intent o (psw_of m.world)) judged
     ∙ ap (λ (q : List ℕ). Ok (quietly q (psw_of m.world / 16 * 16 + 4 * bit_of (not b) + psw_of m.world % 2))) goes ∙ ap (λ (k : ℕ). Ok (quietly (past_own_bytes n.length r) k)) (sym codes) in

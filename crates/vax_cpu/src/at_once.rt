@@ -1,7 +1,7 @@
 ghost use Rattle.std.specs.Prelude.{◌≡◌, sum, take, MatchOption};
 ghost use Rattle.vax_table.specs.Spelling.{view};
 ghost use Rattle.vax_normal.specs.Normal.{IsNormal};
-ghost use Rattle.vax_cpu.specs.Completed.{RunsOn, with_registers};
+ghost use Rattle.vax_cpu.specs.Completed.{RunsOnWithSum};
 
 use crate::here::stands;
 use crate::in_memory::step_in_memory;
@@ -22,7 +22,7 @@ fn step_by(
 ) -> Option<u64>
     requires normal { IsNormal normal.now (view kept.now.prepared.decoded) }
     requires sum { total ≡ sum (take 15 r.old) }
-    ensures { MatchOption result ((state.new ≡ state.old) × (r.new ≡ r.old)) (λ t. (t ≡ sum (take 15 r.new)) × RunsOn (with_registers r.old state.old) (with_registers r.new state.new)) }
+    ensures { MatchOption result ((state.new ≡ state.old) × (r.new ≡ r.old)) (λ t. RunsOnWithSum t state.old r.old state.new r.new) }
 {
     let pc = r[15];
     if !stands(state, missed, kept, pc) {
@@ -47,7 +47,7 @@ pub fn step_at_once(
     total: u64,
 ) -> Option<u64>
     requires { total ≡ sum (take 15 r.old) }
-    ensures { MatchOption result ((state.new ≡ state.old) × (r.new ≡ r.old)) (λ t. (t ≡ sum (take 15 r.new)) × RunsOn (with_registers r.old state.old) (with_registers r.new state.new)) }
+    ensures { MatchOption result ((state.new ≡ state.old) × (r.new ≡ r.old)) (λ t. RunsOnWithSum t state.old r.old state.new r.new) }
 {
     match &kept.normal {
         Some(normal) => step_by(state, missed, kept, normal, r, total),

@@ -1,14 +1,10 @@
 ghost use Rattle.std.specs.Prelude.{◌≡◌, ◌*◌, ◌≤◌, length, sum, take, IfOk, IfSome, MatchOption, Ok};
-ghost use Rattle.vax_hw.specs.Machine.{Machine, seen_psl, zeros};
-ghost use Rattle.vax_hw.specs.Real.{in_kernel, real};
-ghost use Rattle.vax_operand.specs.Left.{operands_with_registers};
-ghost use Rattle.vax_paged.specs.Paged.{paged, placed};
-ghost use Rattle.vax_table.specs.Interaction.{outcome};
+ghost use Rattle.vax_hw.specs.Machine.{Machine, zeros};
+ghost use Rattle.vax_hw.specs.Real.{real};
+ghost use Rattle.vax_paged.specs.Paged.{placed};
 ghost use Rattle.vax_table.specs.Troubles.{intent_of};
-ghost use Rattle.vax_table.specs.Whole.{instruction};
-ghost use Rattle.vax_cpu.specs.Completed.{EndsWith, RunsOn, settled_meaning, with_registers};
+ghost use Rattle.vax_cpu.specs.Completed.{EndsWith, RunsOnWithSum, settled_at, with_registers};
 ghost use Rattle.vax_cpu.specs.Outcomes.{attempted};
-ghost use Rattle.vax_kept.specs.Fetched.{exits};
 
 use crate::at_once::step_at_once;
 use crate::here::stands_in_page;
@@ -90,7 +86,7 @@ fn attempt_walked(
     before: &[u32; 16],
     plan: &mut Plan,
 ) -> Result<u8, Stop>
-    ensures attempted { attempted (operands_with_registers o.new plan.new.r) plan.new result ≡ settled_meaning state.old.memory state.old.world (exits (outcome (paged state.old.memory state.old.world) (instruction (in_kernel state.old.world) (seen_psl state.old.world) before.now))) }
+    ensures attempted { attempted o.new plan.new result ≡ settled_at state.old.memory state.old.world before.now }
     ensures state { state.new ≡ state.old }
 {
     plan.r = *before;
@@ -114,7 +110,7 @@ fn attempt_next(
     before: &[u32; 16],
     plan: &mut Plan,
 ) -> Result<u8, Stop>
-    ensures attempted { attempted (operands_with_registers o.new plan.new.r) plan.new result ≡ settled_meaning state.old.memory state.old.world (exits (outcome (paged state.old.memory state.old.world) (instruction (in_kernel state.old.world) (seen_psl state.old.world) before.now))) }
+    ensures attempted { attempted o.new plan.new result ≡ settled_at state.old.memory state.old.world before.now }
     ensures state { state.new ≡ state.old }
 {
     let kept = code.at(before[15]);
@@ -136,7 +132,7 @@ fn step_of_status(
     o: &mut Values,
     plan: &mut Plan,
 ) -> Option<u64>
-    ensures { MatchOption result ((state.new ≡ state.old) × (plan.new.r ≡ plan.old.r)) (λ t. (t ≡ sum (take 15 plan.new.r)) × RunsOn (with_registers plan.old.r state.old) (with_registers plan.new.r state.new)) }
+    ensures { MatchOption result ((state.new ≡ state.old) × (plan.new.r ≡ plan.old.r)) (λ t. RunsOnWithSum t state.old plan.old.r state.new plan.new.r) }
 {
     let before = plan.r;
     if !stands_in_page(state, missed, kept, before[15]) {
@@ -168,7 +164,7 @@ fn step_known(
     total: u64,
 ) -> Option<u64>
     requires { total ≡ sum (take 15 plan.old.r) }
-    ensures { MatchOption result ((state.new ≡ state.old) × (plan.new.r ≡ plan.old.r)) (λ t. (t ≡ sum (take 15 plan.new.r)) × RunsOn (with_registers plan.old.r state.old) (with_registers plan.new.r state.new)) }
+    ensures { MatchOption result ((state.new ≡ state.old) × (plan.new.r ≡ plan.old.r)) (λ t. RunsOnWithSum t state.old plan.old.r state.new plan.new.r) }
 {
     if kept.end == 0 {
         if !is_of_status(kept.prepared.operation) {
@@ -206,7 +202,7 @@ fn step_rarer(
     total: u64,
 ) -> Option<u64>
     requires { total ≡ sum (take 15 plan.old.r) }
-    ensures { MatchOption result ((state.new ≡ state.old) × (plan.new.r ≡ plan.old.r)) (λ t. (t ≡ sum (take 15 plan.new.r)) × RunsOn (with_registers plan.old.r state.old) (with_registers plan.new.r state.new)) }
+    ensures { MatchOption result ((state.new ≡ state.old) × (plan.new.r ≡ plan.old.r)) (λ t. RunsOnWithSum t state.old plan.old.r state.new plan.new.r) }
 {
     if let Some(sum) = rarer_at_once(state, missed, kept, &mut plan.r, total) {
         return Some(sum);
@@ -226,7 +222,7 @@ fn step_kept(
     total: u64,
 ) -> Option<u64>
     requires { total ≡ sum (take 15 plan.old.r) }
-    ensures { MatchOption result ((state.new ≡ state.old) × (plan.new.r ≡ plan.old.r)) (λ t. (t ≡ sum (take 15 plan.new.r)) × RunsOn (with_registers plan.old.r state.old) (with_registers plan.new.r state.new)) }
+    ensures { MatchOption result ((state.new ≡ state.old) × (plan.new.r ≡ plan.old.r)) (λ t. RunsOnWithSum t state.old plan.old.r state.new plan.new.r) }
 {
     if let Some(sum) = step_at_once(state, missed, kept, &mut plan.r, total) {
         return Some(sum);
@@ -245,7 +241,8 @@ fn step_whole(
     plan: &mut Plan,
     exit: &mut Exit,
 ) -> Option<u64>
-    ensures { MatchOption result (EndsWith exit.new (with_registers plan.old.r state.old) (with_registers plan.new.r state.new)) (λ t. (t ≡ sum (take 15 plan.new.r)) × RunsOn (with_registers plan.old.r state.old) (with_registers plan.new.r state.new)) }
+    ensures { MatchOption result (EndsWith exit.new (with_registers plan.old.r state.old)
+        (with_registers plan.new.r state.new)) (λ t. RunsOnWithSum t state.old plan.old.r state.new plan.new.r) }
 {
     let before = plan.r;
     match attempt_next(state, missed, code, o, &before, plan) {

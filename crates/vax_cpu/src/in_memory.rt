@@ -3,7 +3,7 @@ ghost use Rattle.vax_table.specs.Spelling.{view};
 ghost use Rattle.vax_normal.specs.InMemory.{HasClaimed, IsInMemory, reach_address};
 ghost use Rattle.vax_paged.specs.InPage.{IsOpenAt};
 ghost use Rattle.vax_paged.specs.Known.{AreKnown, known_space};
-ghost use Rattle.vax_cpu.specs.Completed.{RunsOn, with_registers};
+ghost use Rattle.vax_cpu.specs.Completed.{RunsOnWithSum};
 
 use crate::here::stands;
 use crate::state::State;
@@ -33,7 +33,8 @@ pub fn claim(
     requires known { AreKnown space.now.memory.now world.now space.now.known.now }
     requires width { IfSome writes.now (λ p. p.width ≡ width) }
     ensures number { IfSome result (λ c. HasClaimed (known_space space.now.memory.now space.now.known.now) writes.now r.now c.number) }
-    ensures place { IfSome result (λ c. IfSome writes.now (λ p. IsOpenAt space.now.memory.now world.now space.now.known.now (reach_address p r.now) width c.place)) }
+    ensures place { IfSome result (λ c. IfSome writes.now
+        (λ p. IsOpenAt space.now.memory.now world.now space.now.known.now (reach_address p r.now) width c.place)) }
 {
     let Some(reach) = writes else {
         return Some(Claimed {
@@ -59,7 +60,7 @@ pub fn step_in_memory(
 ) -> Option<u64>
     requires form { IsInMemory form.now (view kept.now.prepared.decoded) }
     requires sum { total ≡ sum (take 15 r.old) }
-    ensures { MatchOption result ((state.new ≡ state.old) × (r.new ≡ r.old)) (λ t. (t ≡ sum (take 15 r.new)) × RunsOn (with_registers r.old state.old) (with_registers r.new state.new)) }
+    ensures { MatchOption result ((state.new ≡ state.old) × (r.new ≡ r.old)) (λ t. RunsOnWithSum t state.old r.old state.new r.new) }
 {
     let pc = r[15];
     if !stands(state, missed, kept, pc) {

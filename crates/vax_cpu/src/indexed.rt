@@ -4,7 +4,7 @@ ghost use Rattle.vax_table.specs.Spelling.{view};
 ghost use Rattle.vax_paged.specs.InPage.{IsOpenAt};
 ghost use Rattle.vax_paged.specs.Known.{AreKnown, known_space};
 ghost use Rattle.vax_normal.specs.Indexed.{HasIndexed, IsIndexed, indexed_address};
-ghost use Rattle.vax_cpu.specs.Completed.{RunsOn, with_registers};
+ghost use Rattle.vax_cpu.specs.Completed.{RunsOnWithSum};
 
 use crate::here::stands;
 use crate::in_memory::Claimed;
@@ -22,7 +22,9 @@ use vax_paged::{Mapped, number_inside};
 fn refer(space: &Mapped, world: &World, form: &Indexed, r: &[u32; 16]) -> Option<Claimed>
     requires { AreKnown space.now.memory.now world.now space.now.known.now }
     ensures number { IfSome result (λ c. HasIndexed (known_space space.now.memory.now space.now.known.now) form.now.intent form.now.reach r.now c.number) }
-    ensures place { IfSome result (λ c. form.now.intent ≡ Write → IsOpenAt space.now.memory.now world.now space.now.known.now (indexed_address form.now.reach r.now) form.now.reach.width c.place) }
+    ensures place { IfSome result (λ c. form.now.intent ≡ Write →
+        IsOpenAt space.now.memory.now world.now space.now.known.now
+        (indexed_address form.now.reach r.now) form.now.reach.width c.place) }
 {
     let at = form.reach.address(r);
     let width = form.reach.width;
@@ -52,7 +54,7 @@ pub fn step_indexed(
 ) -> Option<u64>
     requires form { IsIndexed form.now (view kept.now.prepared.decoded) }
     requires sum { total ≡ sum (take 15 r.old) }
-    ensures { MatchOption result ((state.new ≡ state.old) × (r.new ≡ r.old)) (λ t. (t ≡ sum (take 15 r.new)) × RunsOn (with_registers r.old state.old) (with_registers r.new state.new)) }
+    ensures { MatchOption result ((state.new ≡ state.old) × (r.new ≡ r.old)) (λ t. RunsOnWithSum t state.old r.old state.new r.new) }
 {
     let pc = r[15];
     if !stands(state, missed, kept, pc) {

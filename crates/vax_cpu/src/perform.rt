@@ -1,4 +1,4 @@
-ghost use Rattle.std.specs.Prelude.{◌≡◌, ◌<◌, ℕ, List, None, Ok, true, slice_index, IfSome};
+ghost use Rattle.std.specs.Prelude.{◌≡◌, ◌<◌, ℕ, List, None, Ok, true, IfSome};
 ghost use Rattle.arrayvec.specs.ArrayVec.{array_vec_len};
 ghost use Rattle.vax_table.specs.Effects.{effect, put};
 ghost use Rattle.vax_table.specs.Fetch.{fetched};
@@ -7,7 +7,7 @@ ghost use Rattle.vax_table.specs.Operations.{operation_of};
 ghost use Rattle.vax_table.specs.Plan.{is_planned};
 ghost use Rattle.vax_table.specs.Interaction.{outcome};
 ghost use Rattle.vax_table.specs.Spelling.{IsWellFormed, view};
-ghost use Rattle.vax_table.specs.Whole.{first_operand, instruction, meant, probe_of, trap_of, trapping};
+ghost use Rattle.vax_table.specs.Whole.{first_operand, probe_of, trap_of, trapping};
 ghost use Rattle.vax_table.specs.Acted.{acted, plain_meaning, probing, is_always_done};
 ghost use Rattle.vax_table.specs.declared.effect.Plan.{Plan};
 ghost use Rattle.vax_table.specs.declared.evaluation.Operands.{Operands};
@@ -19,8 +19,7 @@ ghost use Rattle.vax_hw.specs.Real.{in_kernel};
 ghost use Rattle.vax_kept.specs.Changed.{AreAlikeBut};
 ghost use Rattle.vax_cpu.specs.Outcomes.{acts_of, attempted, found, is_of_status, meaning_of, settled_as};
 ghost use Rattle.vax_kept.specs.Fetched.{exits};
-ghost use Rattle.vax_cpu.specs.Completed.{settled, settled_meaning};
-ghost use Rattle.vax_paged.specs.Paged.{paged};
+ghost use Rattle.vax_cpu.specs.Completed.{fetched_at, meaning_at, settled, settled_at};
 
 use crate::probe::{judge, probed};
 use crate::state::{State, seen_psl};
@@ -158,7 +157,7 @@ fn trap<S: Space>(
     plan: &mut Plan,
 ) -> Result<Act, Stop>
     requires { IsWellFormed (view kept.now.prepared.decoded) }
-    ensures { acts_of kept.now.prepared.decoded.opcode (operands_with_registers o.new plan.new.r) plan.new result ≡ exits (outcome (S.space s.now) (trapping op (view kept.now.prepared.decoded) plan.old.r)) }
+    ensures { acts_of kept.now o.new plan.new result ≡ exits (outcome (S.space s.now) (trapping op (view kept.now.prepared.decoded) plan.old.r)) }
 {
     evaluate_trapped(s, &kept.prepared, &mut plan.r, o).map_err(stop_of)?;
     Ok(Act::Traps(op))
@@ -185,7 +184,7 @@ fn plain<S: Space>(
 ) -> Result<Act, Stop>
     requires formed { IsWellFormed (view kept.now.prepared.decoded) }
     requires planned { is_planned (operation_of kept.now.prepared.decoded.opcode) ≡ true }
-    ensures { acts_of kept.now.prepared.decoded.opcode (operands_with_registers o.new plan.new.r) plan.new result ≡ exits (outcome (S.space s.now) (plain_meaning psl.0 (view kept.now.prepared.decoded) plan.old.r)) }
+    ensures { acts_of kept.now o.new plan.new result ≡ exits (outcome (S.space s.now) (plain_meaning psl.0 (view kept.now.prepared.decoded) plan.old.r)) }
 {
     plan_into(s, &kept.prepared, psl, o, plan).map_err(stop_of)?;
     Ok(Act::Plain)
@@ -217,7 +216,7 @@ fn moves_status<S: Space>(
 ) -> Result<Act, Stop>
     requires formed { IsWellFormed (view kept.now.prepared.decoded) }
     requires moves { operation_of kept.now.prepared.decoded.opcode ≡ MoveStatus }
-    ensures { acts_of kept.now.prepared.decoded.opcode (operands_with_registers o.new plan.new.r) plan.new result ≡ exits (outcome (S.space s.now) (plain_meaning psl.0 (view kept.now.prepared.decoded) plan.old.r)) }
+    ensures { acts_of kept.now o.new plan.new result ≡ exits (outcome (S.space s.now) (plain_meaning psl.0 (view kept.now.prepared.decoded) plan.old.r)) }
 {
     evaluate_into(s, &kept.prepared, &mut plan.r, o).map_err(stop_of)?;
     begin(plan, (psl.0 % 0x100) as u8);
@@ -237,7 +236,7 @@ fn move_status<S: Space>(
 ) -> Result<Act, Stop>
     requires formed { IsWellFormed (view kept.now.prepared.decoded) }
     requires moves { operation_of kept.now.prepared.decoded.opcode ≡ MoveStatus }
-    ensures { acts_of kept.now.prepared.decoded.opcode (operands_with_registers o.new plan.new.r) plan.new result ≡ exits (outcome (S.space s.now) (plain_meaning psl.0 (view kept.now.prepared.decoded) plan.old.r)) }
+    ensures { acts_of kept.now o.new plan.new result ≡ exits (outcome (S.space s.now) (plain_meaning psl.0 (view kept.now.prepared.decoded) plan.old.r)) }
 {
     moves_status(s, kept, psl, o, plan)
 }
@@ -253,7 +252,7 @@ fn probes<S: Space>(
     plan: &mut Plan,
 ) -> Result<Act, Stop>
     requires { IsWellFormed (view kept.now.prepared.decoded) }
-    ensures { acts_of kept.now.prepared.decoded.opcode (operands_with_registers o.new plan.new.r) plan.new result ≡ exits (outcome (S.space s.now) (probing intent (view kept.now.prepared.decoded) plan.old.r)) }
+    ensures { acts_of kept.now o.new plan.new result ≡ exits (outcome (S.space s.now) (probing intent (view kept.now.prepared.decoded) plan.old.r)) }
 {
     evaluate_into(s, &kept.prepared, &mut plan.r, o).map_err(stop_of)?;
     Ok(Act::Probes(intent))
@@ -273,7 +272,7 @@ pub fn carry_out<S: Space>(
     plan: &mut Plan,
 ) -> Result<Act, Stop>
     requires { IsWellFormed (view kept.now.prepared.decoded) }
-    ensures { acts_of kept.now.prepared.decoded.opcode (operands_with_registers o.new plan.new.r) plan.new result ≡ exits (outcome (S.space s.now) (acted is_kernel psl.0 (view kept.now.prepared.decoded) plan.old.r)) }
+    ensures { acts_of kept.now o.new plan.new result ≡ exits (outcome (S.space s.now) (acted is_kernel psl.0 (view kept.now.prepared.decoded) plan.old.r)) }
 {
     let d = &kept.prepared.decoded;
     let refusal = match kept.prepared.operation {
@@ -317,7 +316,7 @@ fn find(
     o: &mut Values,
     plan: &mut Plan,
 ) -> Result<Found, Stop>
-    ensures { found (operands_with_registers o.new plan.new.r) plan.new result ≡ exits (outcome (paged memory.now world.now) (instruction (in_kernel world.now) (seen_psl world.now) plan.old.r)) }
+    ensures { found o.new plan.new result ≡ meaning_at memory.now world.now plan.old.r }
 {
     let space = Paged { memory, world };
     fetch(&space, plan.r[15], kept).map_err(Stop::Fault)?;
@@ -333,7 +332,7 @@ fn find(
 /// set; PROBE where the machine judges its bytes.
 #[inline(always)]
 fn settle(memory: &[u8], world: &World, act: Act, o: &Values, plan: &mut Plan) -> Result<(), Stop>
-    ensures { settled_as (operands_with_registers o.now plan.new.r) plan.new result ≡ settled memory.now world.now (meaning_of (operands_with_registers o.now plan.old.r) plan.old act) }
+    ensures { settled_as o.now plan.new result ≡ settled memory.now world.now (meaning_of o.now plan.old act) }
 {
     match act {
         Act::Plain if plan.writes.is_empty() => Ok(()),
@@ -367,7 +366,7 @@ pub fn attempt_known(
 ) -> bool
     ensures untrapped { result ≡ true → plan.new.trap ≡ None }
     ensures changed { result ≡ true → kept.now.changed < 15 → AreAlikeBut kept.now.changed plan.old.r plan.new.r }
-    ensures attempted { result ≡ true → Ok (kept.now.prepared.decoded.opcode, effect plan.new) ≡ settled_meaning state.now.memory state.now.world (exits (outcome (paged state.now.memory state.now.world) (instruction (in_kernel state.now.world) (seen_psl state.now.world) plan.old.r))) }
+    ensures attempted { result ≡ true → Ok (kept.now.prepared.decoded.opcode, effect plan.new) ≡ settled_at state.now.memory state.now.world plan.old.r }
 {
     let world = state.world();
     let space = state.mapped(missed);
@@ -400,9 +399,9 @@ fn find_of_status(
     o: &mut Values,
     plan: &mut Plan,
 ) -> Option<Act>
-    requires fetched { Ok (view kept.now.prepared.decoded) ≡ exits (outcome (paged state.now.memory state.now.world) (fetched (slice_index plan.old.r 15))) }
+    requires fetched { Ok (view kept.now.prepared.decoded) ≡ fetched_at state.now.memory state.now.world plan.old.r }
     requires formed { IsWellFormed (view kept.now.prepared.decoded) }
-    ensures { IfSome result (λ a. Ok (meant kept.now.prepared.decoded.opcode (meaning_of (operands_with_registers o.new plan.new.r) plan.new a)) ≡ exits (outcome (paged state.now.memory state.now.world) (instruction (in_kernel state.now.world) (seen_psl state.now.world) plan.old.r))) }
+    ensures { IfSome result (λ a. acts_of kept.now o.new plan.new (Ok a) ≡ meaning_at state.now.memory state.now.world plan.old.r) }
 {
     let space = state.mapped(missed);
     match kept.prepared.operation {
@@ -433,10 +432,10 @@ pub fn attempt_of_status(
     o: &mut Values,
     plan: &mut Plan,
 ) -> bool
-    requires fetched { Ok (view kept.now.prepared.decoded) ≡ exits (outcome (paged state.now.memory state.now.world) (fetched (slice_index plan.old.r 15))) }
+    requires fetched { Ok (view kept.now.prepared.decoded) ≡ fetched_at state.now.memory state.now.world plan.old.r }
     requires formed { IsWellFormed (view kept.now.prepared.decoded) }
     ensures untrapped { result ≡ true → plan.new.trap ≡ None }
-    ensures attempted { result ≡ true → Ok (kept.now.prepared.decoded.opcode, effect plan.new) ≡ settled_meaning state.now.memory state.now.world (exits (outcome (paged state.now.memory state.now.world) (instruction (in_kernel state.now.world) (seen_psl state.now.world) plan.old.r))) }
+    ensures attempted { result ≡ true → Ok (kept.now.prepared.decoded.opcode, effect plan.new) ≡ settled_at state.now.memory state.now.world plan.old.r }
 {
     match find_of_status(state, missed, kept, o, plan) {
         Some(act) => {
@@ -456,7 +455,7 @@ fn find_known(
     o: &mut Values,
     plan: &mut Plan,
 ) -> Option<Act>
-    ensures { IfSome result (λ a. Ok (meant kept.now.prepared.decoded.opcode (meaning_of (operands_with_registers o.new plan.new.r) plan.new a)) ≡ exits (outcome (paged state.now.memory state.now.world) (instruction (in_kernel state.now.world) (seen_psl state.now.world) plan.old.r))) }
+    ensures { IfSome result (λ a. acts_of kept.now o.new plan.new (Ok a) ≡ meaning_at state.now.memory state.now.world plan.old.r) }
 {
     let world = state.world();
     let space = state.mapped(missed);
@@ -481,7 +480,7 @@ pub fn attempt_kept(
     before: &[u32; 16],
     plan: &mut Plan,
 ) -> Option<Result<u8, Stop>>
-    ensures { IfSome result (λ x. attempted (operands_with_registers o.new plan.new.r) plan.new x ≡ settled_meaning state.now.memory state.now.world (exits (outcome (paged state.now.memory state.now.world) (instruction (in_kernel state.now.world) (seen_psl state.now.world) before.now)))) }
+    ensures { IfSome result (λ x. attempted o.new plan.new x ≡ settled_at state.now.memory state.now.world before.now) }
 {
     plan.r = *before;
     match find_known(state, missed, kept, o, plan) {
@@ -502,7 +501,7 @@ pub fn attempt(
     o: &mut Values,
     plan: &mut Plan,
 ) -> Result<u8, Stop>
-    ensures { attempted (operands_with_registers o.new plan.new.r) plan.new result ≡ settled_meaning memory.now world.now (exits (outcome (paged memory.now world.now) (instruction (in_kernel world.now) (seen_psl world.now) plan.old.r))) }
+    ensures { attempted o.new plan.new result ≡ settled_at memory.now world.now plan.old.r }
 {
     let found = find(memory, world, kept, o, plan)?;
     settle(memory, world, found.act, o, plan)?;

@@ -1,6 +1,7 @@
 ghost use Rattle.std.specs.Prelude.{◌≡◌, ◌+◌, ◌*◌, ◌/◌, ◌%◌, ◌^◌, [], not, slice_index};
 ghost use Rattle.vax_hw.specs.Machine.{machine_tables};
-ghost use Rattle.vax_hw.specs.RealTables.{access_judged, both_judged, is_kernels_alone, judged_by, real_probe};
+ghost use Rattle.vax_hw.specs.Real.{real_probe};
+ghost use Rattle.vax_hw.specs.RealTables.{access_judged, both_judged, is_kernels_alone, judged_by};
 ghost use Rattle.vax_table.specs.Arithmetic.{bit_of};
 ghost use Rattle.vax_table.specs.Effects.{effect};
 ghost use Rattle.vax_table.specs.Plan.{probed};
@@ -76,7 +77,8 @@ fn judged(space: &Paged, m: Mode, i: Intent, va: u32) -> Option<bool>
 
 /// Whether both bytes may be used, where the machine judges that: by one entry where they lie in one page.
 fn both_judged(space: &Paged, m: Mode, i: Intent, base: u32, last: u32) -> Option<bool>
-    ensures { result ≡ both_judged (access_judged space.now.memory.now (machine_tables space.now.world.now) m i base) (access_judged space.now.memory.now (machine_tables space.now.world.now) m i last) }
+    ensures { result ≡ both_judged (access_judged space.now.memory.now (machine_tables space.now.world.now) m i base)
+        (access_judged space.now.memory.now (machine_tables space.now.world.now) m i last) }
 {
     let first = judged(space, m, i, base);
     if last / 512 == base / 512 {
@@ -88,7 +90,7 @@ fn both_judged(space: &Paged, m: Mode, i: Intent, base: u32, last: u32) -> Optio
 /// Whether both bytes that PROBE asks of may be used, where the machine judges that, by the mode that it names, how many bytes
 /// they lie apart, and the address of the first.
 pub fn judge_at(space: &Paged, i: Intent, named: u32, bytes: u32, base: u32) -> Option<bool>
-    ensures { result ≡ real_probe space.now.memory.now (machine_tables space.now.world.now) space.now.world.now.psl.0 i named bytes base }
+    ensures { result ≡ real_probe space.now.memory.now space.now.world.now i named bytes base }
 {
     let m = probe_mode(space.world.psl, named);
     both_judged(space, m, i, base, last_of(base, bytes % 0x1_0000))
@@ -96,7 +98,9 @@ pub fn judge_at(space: &Paged, i: Intent, named: u32, bytes: u32, base: u32) -> 
 
 /// Whether both bytes that PROBE asks of may be used, by its operands: the mode, the length, and the base.
 pub fn judge(space: &Paged, i: Intent, o: &Values) -> Option<bool>
-    ensures { result ≡ real_probe space.now.memory.now (machine_tables space.now.world.now) space.now.world.now.psl.0 i (slice_index o.now.values 0 % 2 ^ 32) (slice_index o.now.values 1 % 2 ^ 32) (slice_index o.now.values 2 % 2 ^ 32) }
+    ensures { result ≡ real_probe space.now.memory.now space.now.world.now i
+        (slice_index o.now.values 0 % 2 ^ 32) (slice_index o.now.values 1 % 2 ^ 32)
+        (slice_index o.now.values 2 % 2 ^ 32) }
 {
     judge_at(space, i, o.long(0), o.long(1), o.long(2))
 }

@@ -1,5 +1,5 @@
 ghost use Rattle.std.specs.Prelude.{◌≡◌, sum, take, MatchOption};
-ghost use Rattle.vax_cpu.specs.Completed.{RunsOn, with_registers};
+ghost use Rattle.vax_cpu.specs.Completed.{RunsOnWithSum};
 
 use crate::bit_test::step_bit_test;
 use crate::indexed::step_indexed;
@@ -21,7 +21,7 @@ pub fn rarer_at_once(
     total: u64,
 ) -> Option<u64>
     requires { total ≡ sum (take 15 r.old) }
-    ensures { MatchOption result ((state.new ≡ state.old) × (r.new ≡ r.old)) (λ t. (t ≡ sum (take 15 r.new)) × RunsOn (with_registers r.old state.old) (with_registers r.new state.new)) }
+    ensures { MatchOption result ((state.new ≡ state.old) × (r.new ≡ r.old)) (λ t. RunsOnWithSum t state.old r.old state.new r.new) }
 {
     match &kept.rarer {
         None => None,

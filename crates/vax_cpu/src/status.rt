@@ -2,7 +2,7 @@ ghost use Rattle.std.specs.Prelude.{◌≡◌, sum, take, MatchOption};
 ghost use Rattle.vax_table.specs.Spelling.{view};
 ghost use Rattle.vax_normal.specs.ProbeTest.{IsProbeTest};
 ghost use Rattle.vax_normal.specs.StatusMove.{IsStatusMove};
-ghost use Rattle.vax_cpu.specs.Completed.{RunsOn, with_registers};
+ghost use Rattle.vax_cpu.specs.Completed.{RunsOnWithSum};
 
 use crate::here::stands_in_page;
 use crate::probe::{judge_at, probed_psw};
@@ -24,7 +24,7 @@ pub fn step_status_move(
 ) -> Option<u64>
     requires form { IsStatusMove form.now (view kept.now.prepared.decoded) }
     requires sum { total ≡ sum (take 15 r.old) }
-    ensures { MatchOption result ((state.new ≡ state.old) × (r.new ≡ r.old)) (λ t. (t ≡ sum (take 15 r.new)) × RunsOn (with_registers r.old state.old) (with_registers r.new state.new)) }
+    ensures { MatchOption result ((state.new ≡ state.old) × (r.new ≡ r.old)) (λ t. RunsOnWithSum t state.old r.old state.new r.new) }
 {
     let pc = r[15];
     if !stands_in_page(state, missed, kept, pc) {
@@ -50,7 +50,7 @@ pub fn step_probe(
 ) -> Option<u64>
     requires form { IsProbeTest form.now (view kept.now.prepared.decoded) }
     requires sum { total ≡ sum (take 15 r.old) }
-    ensures { MatchOption result ((state.new ≡ state.old) × (r.new ≡ r.old)) (λ t. (t ≡ sum (take 15 r.new)) × RunsOn (with_registers r.old state.old) (with_registers r.new state.new)) }
+    ensures { MatchOption result ((state.new ≡ state.old) × (r.new ≡ r.old)) (λ t. RunsOnWithSum t state.old r.old state.new r.new) }
 {
     let pc = r[15];
     if !stands_in_page(state, missed, kept, pc) {

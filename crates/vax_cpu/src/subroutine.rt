@@ -1,7 +1,7 @@
 ghost use Rattle.std.specs.Prelude.{◌≡◌, sum, take, MatchOption};
 ghost use Rattle.vax_table.specs.Spelling.{view};
 ghost use Rattle.vax_normal.specs.Subroutine.{IsCall, IsReturn};
-ghost use Rattle.vax_cpu.specs.Completed.{RunsOn, with_registers};
+ghost use Rattle.vax_cpu.specs.Completed.{RunsOnWithSum};
 
 use crate::here::stands;
 use crate::state::State;
@@ -22,7 +22,7 @@ pub fn step_call(
 ) -> Option<u64>
     requires form { IsCall form.now (view kept.now.prepared.decoded) }
     requires sum { total ≡ sum (take 15 r.old) }
-    ensures { MatchOption result ((state.new ≡ state.old) × (r.new ≡ r.old)) (λ t. (t ≡ sum (take 15 r.new)) × RunsOn (with_registers r.old state.old) (with_registers r.new state.new)) }
+    ensures { MatchOption result ((state.new ≡ state.old) × (r.new ≡ r.old)) (λ t. RunsOnWithSum t state.old r.old state.new r.new) }
 {
     let pc = r[15];
     if !stands(state, missed, kept, pc) {
@@ -49,7 +49,7 @@ pub fn step_return(
 ) -> Option<u64>
     requires form { IsReturn (view kept.now.prepared.decoded) }
     requires sum { total ≡ sum (take 15 r.old) }
-    ensures { MatchOption result ((state.new ≡ state.old) × (r.new ≡ r.old)) (λ t. (t ≡ sum (take 15 r.new)) × RunsOn (with_registers r.old state.old) (with_registers r.new state.new)) }
+    ensures { MatchOption result ((state.new ≡ state.old) × (r.new ≡ r.old)) (λ t. RunsOnWithSum t state.old r.old state.new r.new) }
 {
     let pc = r[15];
     if !stands(state, missed, kept, pc) {

@@ -1,7 +1,7 @@
 ghost use Rattle.std.specs.Prelude.{◌≡◌, ◌<◌, ◌%◌, IfOk};
 ghost use Rattle.arrayvec.specs.ArrayVec.{array_vec_len};
 ghost use Rattle.vv_base.specs.Bits.{is_set};
-ghost use Rattle.vax_table.specs.Branches.{bit_intent, bit_tested, branched_on_bit, byte_of_bit, with_bit};
+ghost use Rattle.vax_table.specs.Branches.{bit_intent, bit_made, bit_tested, branched_on_bit, byte_of_bit, with_bit};
 ghost use Rattle.vax_table.specs.Effects.{effect};
 ghost use Rattle.vax_table.specs.Interaction.{number_at, outcome};
 ghost use Rattle.vax_table.specs.Troubles.{with_trouble};
@@ -50,7 +50,7 @@ fn test_bit(
 )
     requires bit { k < 32 }
     requires room { array_vec_len plan.old.writes < 20 }
-    ensures { effect plan.new ≡ bit_tested on becomes dest w k n to (effect plan.old) }
+    ensures { effect plan.new ≡ bit_tested on k n to (bit_made becomes dest w k n (effect plan.old)) }
 {
     if let Some(value) = becomes {
         plan.put(dest, w, u64::from(with_bit(value, k, n)));

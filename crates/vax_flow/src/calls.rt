@@ -40,7 +40,9 @@ fn push_frame_end<S: Space>(
     word: u32,
 ) -> Result<(), Trouble>
     requires room { array_vec_len plan.old.writes ≤ 15 }
-    ensures { left result (effect plan.new) ≡ outcome (S.space space.now) (push_all (slice_index r.now 15 ∷ slice_index r.now 13 ∷ slice_index r.now 12 ∷ word ∷ 0 ∷ []) (effect plan.old)) }
+    ensures { left result (effect plan.new) ≡ outcome (S.space space.now)
+        (push_all (slice_index r.now 15 ∷ slice_index r.now 13 ∷ slice_index r.now 12 ∷ word ∷ 0 ∷ [])
+        (effect plan.old)) }
 {
     push(space, plan, r[15])?;
     push(space, plan, r[13])?;

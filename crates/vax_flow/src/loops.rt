@@ -1,6 +1,6 @@
 ghost use Rattle.std.specs.Prelude.{◌≡◌, ◌≢◌, ◌<◌};
 ghost use Rattle.vax_table.specs.Branches.{added_and_compared, added_one, is_at_most, is_less, keeping_c, looped, subtracted_one};
-ghost use Rattle.vax_table.specs.Effects.{dest_of, effect};
+ghost use Rattle.vax_table.specs.Effects.{dest_of, effect, went_if};
 ghost use Rattle.vax_operand.specs.Left.{operands_with_registers};
 
 use crate::begun::begin;
@@ -28,7 +28,9 @@ fn loop_to(
     plan: &mut Plan,
 )
     requires { index < 4 }
-    ensures { effect plan.new ≡ looped w (dest_of (operands_with_registers o.now plan.old.r) index) x.now taken to (operands_with_registers o.now plan.old.r) psw }
+    ensures { effect plan.new ≡ went_if taken to (looped w
+        (dest_of (operands_with_registers o.now plan.old.r) index) x.now
+        (operands_with_registers o.now plan.old.r) psw) }
 {
     begin(plan, keeping_c(psw, x.psw));
     if let Some(kind) = x.trap {

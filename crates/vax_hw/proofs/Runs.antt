@@ -7,10 +7,9 @@ use Rattle.vax_table.specs.Whole.{Act, Meant, Plain, Probes, Traps, instruction}
 use Rattle.vax_arch.specs.declared.mode.Intent.{Intent}
 use Rattle.vax_table.specs.declared.evaluation.Operands.{Operands}
 use Rattle.std.specs.Prelude.{Bool}
-use Rattle.vax_hw.specs.Machine.{Machine, is_real_bit_clear, machine_space, machine_tables, seen_psl}
-use Rattle.vax_hw.specs.Real.{Retired, unless_trapped, retired_by_try, exit_of, going_on, in_kernel, carried_out, misses_after, machine_step, retired_by_probe, real}
+use Rattle.vax_hw.specs.Machine.{Machine, is_real_bit_clear, machine_space, seen_psl}
+use Rattle.vax_hw.specs.Real.{Retired, unless_trapped, retired_by_try, exit_of, going_on, in_kernel, carried_out, misses_after, machine_step, retired_by_probe, real, real_probe}
 use Rattle.vax_hw.specs.RealLaws.{RunsGoOn, continued}
-use Rattle.vax_hw.specs.RealTables.{real_probe}
 use Rattle.vax_hw.specs.declared.world.Exit.{Exit}
 
 -- an instruction that doesn't retire ends the run, whatever is left
@@ -31,7 +30,7 @@ probe_ends m opcode i o None = λ more n. refl
 act_ends : (m : Machine) (opcode : ℕ) (a : Act) → Ends (carried_out m opcode a)
 act_ends m opcode (Plain e) = tt
 act_ends m opcode (Traps t) = λ more n. refl
-act_ends m opcode (Probes i o) = probe_ends m opcode i o (real_probe m.memory (machine_tables m.world) m.world.psl.0 i (long_of o 0) (long_of o 1) (long_of o 2))
+act_ends m opcode (Probes i o) = probe_ends m opcode i o (real_probe m.memory m.world i (long_of o 0) (long_of o 1) (long_of o 2))
 
 try_ends : (m : Machine) (t : Tried Meant) → Ends (retired_by_try m t)
 try_ends m (Completes meant) = act_ends m meant.opcode meant.act

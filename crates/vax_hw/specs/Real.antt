@@ -1,16 +1,17 @@
 -- What the real machine does: the instructions of the one plan, over its own page tables. Sensitive instructions trap
 -- (Hall and Robinson, Virtualizing the VAX Architecture, ISCA 1991: the virtual-machine extension).
-use Rattle.std.specs.Prelude.{ℕ, zero, suc, ◌+◌, ◌%◌, ◌^◌, Bool, true, false, Option, Some, None, Result, Ok, Err}
+use Rattle.std.specs.Prelude.{ℕ, zero, suc, ◌+◌, ◌%◌, ◌^◌, Bool, true, false, List, Option, Some, None, Result, Ok, Err}
 use Rattle.vax_arch.specs.Fields.{current_of}
 use Rattle.vax_arch.specs.declared.mode.Intent.{Intent}
 use Rattle.vax_arch.specs.declared.mode.Intent.TheVariants.{Read, Write}
 use Rattle.vax_hw.specs.Machine.{Machine, is_real_bit_clear, machine_space, machine_tables, psw_of, retire, seen_psl}
-use Rattle.vax_hw.specs.RealTables.{real_probe}
+use Rattle.vax_hw.specs.RealTables.{access_judged, both_judged}
 use Rattle.vax_hw.specs.declared.world.Exit.{Exit}
 use Rattle.vax_hw.specs.declared.world.Exit.TheVariants.{Arithmetic, Budget, NotValid, Denied, Emulate, Modify, Refused}
 use Rattle.vax_hw.specs.declared.world.World.{World}
 use Rattle.vax_table.specs.Effects.{Effect, long_of}
 use Rattle.vax_table.specs.Plan.{probed}
+use Rattle.vax_table.specs.Probing.{last_of, probe_mode}
 use Rattle.vax_table.specs.Interaction.{Absent, Refusing, Past, Trouble, At, Test}
 use Rattle.vax_table.specs.Tries.{Clear, Completes, Stopped, Tried, tried}
 use Rattle.vax_table.specs.Whole.{Act, Meant, Plain, Probes, Traps, instruction, is_kernel_mode, probe_of, trap_of}
@@ -39,6 +40,12 @@ pub record Retired : Type 0 where
 abbrev pub retired_with : Machine → ℕ → Effect → Result Retired Exit
 retired_with m opcode e = Ok (record { machine = retire opcode e m; trap = e.trap })
 
+-- PROBE over the real tables for an intent, by the real PSL and the operands: the mode, the length, which is a word, and the base
+abbrev pub real_probe : List ℕ → World → Intent → (mode bytes base : ℕ) → Option Bool
+real_probe memory w i mode bytes base =
+    let m = probe_mode w.psl.0 mode in
+    both_judged (access_judged memory (machine_tables w) m i base) (access_judged memory (machine_tables w) m i (last_of base (bytes % 2 ^ 16)))
+
 -- PROBE is executed where the real entries judge both bytes, and traps otherwise
 abbrev pub retired_by_probe : Machine → ℕ → Intent → Operands → Option Bool → Result Retired Exit
 retired_by_probe m opcode i o (Some is_accessible) = retired_with m opcode (probed is_accessible o (psw_of m.world))
@@ -49,7 +56,7 @@ abbrev pub carried_out : Machine → ℕ → Act → Result Retired Exit
 carried_out m opcode (Plain e) = retired_with m opcode e
 carried_out m opcode (Traps t) = Err (Emulate t)
 carried_out m opcode (Probes i o) =
-    retired_by_probe m opcode i o (real_probe m.memory (machine_tables m.world) m.world.psl.0 i (long_of o 0) (long_of o 1) (long_of o 2))
+    retired_by_probe m opcode i o (real_probe m.memory m.world i (long_of o 0) (long_of o 1) (long_of o 2))
 
 -- by the try of the instruction at PC
 abbrev pub retired_by_try : Machine → Tried Meant → Result Retired Exit

@@ -14,7 +14,6 @@ use Rattle.vax_arch.specs.declared.walk.Grant.{Grant}
 use Rattle.vax_arch.specs.declared.walk.Grant.TheVariants.{Absent, Granted, Past, Refused}
 use Rattle.vax_arch.specs.declared.walk.Lookup.{Lookup}
 use Rattle.vax_arch.specs.declared.walk.Lookup.TheVariants.{Beyond, Direct, Fails, Found}
-use Rattle.vax_table.specs.Probing.{last_of, probe_mode}
 use Rattle.vax_table.specs.Interaction.{Cause, cause_of}
 use Rattle.vax_table.specs.Interaction as interaction
 
@@ -81,9 +80,3 @@ abbrev pub both_judged : Option Bool → Option Bool → Option Bool
 both_judged (Some a) (Some b) = Some (a && b)
 both_judged (Some a) None = None
 both_judged None other = None
-
--- for an intent, by the real PSL and the operands: the mode, the length, which is a word, and the base
-abbrev pub real_probe : List ℕ → Tables → (psl : ℕ) → Intent → (mode bytes base : ℕ) → Option Bool
-real_probe memory t psl i mode bytes base =
-    let m = probe_mode psl mode in
-    both_judged (access_judged memory t m i base) (access_judged memory t m i (last_of base (bytes % 2 ^ 16)))

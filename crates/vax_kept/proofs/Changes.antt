@@ -4,7 +4,7 @@ use Rattle.std.specs.Prelude.{◌%◌, nat_lt, if◌then◌else◌}
 use Rattle.vv_base.specs.declared.width.Width.{Width}
 use Rattle.vv_base.specs.declared.width.Width.TheVariants.{Byte, Word, Long, Quad}
 use Rattle.vv_base.specs.Width.{size_of}
-use Rattle.vax_table.specs.Branches.{added_one, bit_in, bit_tested, branched_on_bit, branched_on_low_bit, byte_of_bit, keeping_c, looped, subtracted_one, with_bit}
+use Rattle.vax_table.specs.Branches.{added_one, bit_in, bit_made, bit_tested, branched_on_bit, branched_on_low_bit, byte_of_bit, keeping_c, looped, subtracted_one, with_bit}
 use Rattle.vax_table.specs.Claims.{Holds}
 use Rattle.vax_table.specs.Effects.{Effect, begun, dest_of, long_of, put, went_if}
 use Rattle.vax_table.specs.Operand.{indexed_by}
@@ -190,12 +190,12 @@ narrow_word e = cc
 narrow_long : Long ≢ Quad
 narrow_long e = cc
 
-looped_alike : (r : List ℕ) (n : ℕ) (dest : Dest) (x : Alu) (taken : Bool) (to : ℕ) (o : Operands) (psw : ℕ) → IsAt n dest → AreAlike r o.r → AreAlikeBut n r (looped Long dest x taken to o psw).r
+looped_alike : (r : List ℕ) (n : ℕ) (dest : Dest) (x : Alu) (taken : Bool) (to : ℕ) (o : Operands) (psw : ℕ) → IsAt n dest → AreAlike r o.r → AreAlikeBut n r (went_if taken to (looped Long dest x o psw)).r
 looped_alike r n dest x taken to o psw at h =
     let e : Effect = record (begun o psw) { psw = keeping_c psw x.psw; trap = x.trap } in
     went_alike r n taken to (put dest Long x.value e) (put_alike r n dest Long x.value e narrow_long at h)
 
-tested_alike : (r : List ℕ) (n : ℕ) (on : Bool) (becomes : Option Bool) (dest : Dest) (w : Width) (k v to : ℕ) (e : Effect) → w ≢ Quad → IsAt n dest → AreAlike r e.r → AreAlikeBut n r (bit_tested on becomes dest w k v to e).r
+tested_alike : (r : List ℕ) (n : ℕ) (on : Bool) (becomes : Option Bool) (dest : Dest) (w : Width) (k v to : ℕ) (e : Effect) → w ≢ Quad → IsAt n dest → AreAlike r e.r → AreAlikeBut n r (bit_tested on k v to (bit_made becomes dest w k v e)).r
 tested_alike r n on None dest w k v to e narrow at h = went_alike r n _ to e (λ i low ne. h i low)
 tested_alike r n on (Some b) dest w k v to e narrow at h = went_alike r n _ to (put dest w (with_bit b k v) e) (put_alike r n dest w (with_bit b k v) e narrow at h)
 

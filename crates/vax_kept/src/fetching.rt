@@ -79,7 +79,8 @@ fn stands_in_two(memory: &[u8], places: (usize, usize), first: usize, kept: &Kep
     requires parts { first ≤ kept.now.prepared.decoded.length }
     requires length { kept.now.prepared.decoded.length ≤ 24 }
     ensures first { result ≡ true → (i : ℕ) → i < first → slice_index memory.now (places.0 + i) ≡ slice_index kept.now.bytes i }
-    ensures others { result ≡ true → (i : ℕ) → first + i < kept.now.prepared.decoded.length → slice_index memory.now (places.1 + i) ≡ slice_index kept.now.bytes (first + i) }
+    ensures others { result ≡ true → (i : ℕ) → first + i < kept.now.prepared.decoded.length →
+        slice_index memory.now (places.1 + i) ≡ slice_index kept.now.bytes (first + i) }
 {
     let length = usize::from(kept.prepared.decoded.length);
     has_all(memory, places.0, &kept.bytes[..first])

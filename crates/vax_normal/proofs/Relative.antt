@@ -120,7 +120,7 @@ pc_had n v u at i (x ∷ xs) o is stays room =
     let rest = pc_had n v u at (i + 1) xs (with_operand i o e) is stays.1 there in
     omega (arith, past, kept, rest)
 
-pc_touched : (n : Number) (t : Touches) (x : Operand) (ys : List Operand) (k v u at : ℕ) (r q : List ℕ) → IsByPc n → StaysOver n (x ∷ ys) → AreBeforeTouches t k (x ∷ ys) v u at r q →
+pc_touched : (n : Number) (t : Touches) (x : Operand) (ys : List Operand) (k v u at : ℕ) (r q : List ℕ) → IsByPc n → StaysOver n (x ∷ ys) → AreBeforeTouches t k (all_had v u at (x ∷ ys) q) r q →
     plus (slice_index (past_own_bytes x.length q) 15) (operands_length ys) ≡ plus (slice_index r 15) k
 pc_touched n t x ys k v u at r q is stays before =
     let o : Operands = all_had v u at (x ∷ ys) q in
@@ -140,7 +140,7 @@ pc_touched n t x ys k v u at r q is stays before =
 
 -- the same, where operands touch memory
 abbrev pub IsFirstHad : Number → ℕ → List Operand → Type 0
-IsFirstHad n k xs = (t : Touches) (v u at : ℕ) (r q : List ℕ) → AreBeforeTouches t k xs v u at r q → long_of (all_had v u at xs q) 0 ≡ number_by n r
+IsFirstHad n k xs = (t : Touches) (v u at : ℕ) (r q : List ℕ) → AreBeforeTouches t k (all_had v u at xs q) r q → long_of (all_had v u at xs q) 0 ≡ number_by n r
 
 pub relative_had : (n : Number) (x : Operand) (ys xs : List Operand) (k : ℕ) → xs ≡ x ∷ ys → is_at_hand x.kind ≡ true → (n.register ≡ 15) × (n.mask ≡ 2 ^ 32 - 1) → is_kept_over_all n xs ≡ true →
     ((r q : List ℕ) → plus (slice_index q 15) (operands_length ys) ≡ plus (slice_index r 15) k → value_at_hand x.kind x.form.width x.spec q % 2 ^ 32 ≡ number_by n r) → IsFirstHad n k xs

@@ -7,7 +7,7 @@ use Rattle.vax_table.specs.declared.act.Dest.TheVariants.{Memory}
 use Rattle.vax_table.specs.declared.decoded.Spec.{Spec}
 use Rattle.vax_table.specs.declared.evaluation.Evaluated.{Evaluated}
 use Rattle.vax_table.specs.declared.evaluation.Operands.{Operands}
-use Rattle.vax_table.specs.Effects.{put}
+use Rattle.vax_table.specs.Effects.{long_of, put}
 use Rattle.vax_table.specs.declared.meaning.Operation.{Operation}
 use Rattle.vax_table.specs.Plan.{performed}
 use Rattle.vax_table.specs.Interaction.{Done, Space, outcome}
@@ -20,11 +20,12 @@ use Rattle.vax_operand.specs.declared.kind.Kind.TheVariants.{Read, Modify, Write
 use Rattle.vax_operand.specs.declared.prepared.Operand.{Operand}
 use Rattle.vax_operand.specs.Prepared.{address_by}
 use Rattle.vax_normal.specs.AtHand.{IsMoved, dest_at_hand, is_at_hand, value_at_hand}
-use Rattle.vax_normal.specs.InMemory.{HasClaimed, HasRead, done_in_memory, reach_address, reach_stepped, stepped_by, stored}
+use Rattle.vax_normal.specs.InMemory.{HasClaimed, HasRead, done_in_memory, reach_address, reach_stepped, sourced_by, stepped_by, stored}
 use Rattle.vax_normal.specs.Normal.{with_result}
 use Rattle.vax_normal.specs.declared.shape.InMemory.{InMemory}
 use Rattle.vax_normal.specs.declared.shape.Reach.{Reach}
 use Rattle.vax_normal.specs.declared.shape.Number.{Number}
+use Rattle.vax_normal.specs.declared.shape.Source.{Source}
 use Rattle.vax_normal.specs.declared.touches.Touches.{Touches}
 
 -- the registers that a base leaves, for an operand of `size` bytes
@@ -81,9 +82,15 @@ abbrev pub AreTouched : Touches → List Operand → Type 0
 AreTouched t xs = (s : Space) (i v u at : ℕ) (r : List ℕ) (o : Operands) → IsMoved r o.r → HasRead s t.reads r v → HasClaimed s t.writes r u → IsClaimedAt t.writes r at →
     (outcome s (operands_from i (map (λ x. x.form) xs) (map (λ x. x.spec) xs) o) ≡ Ok (from_had v u at i xs o)) × IsMoved (stepped_by t.writes (stepped_by t.reads r)) (from_had v u at i xs o).r
 
--- registers before an instruction of k bytes whose operands make these touches, and those after its opcode
-abbrev pub AreBeforeTouches : Touches → ℕ → List Operand → (read claimed at : ℕ) → (r q : List ℕ) → Type 0
-AreBeforeTouches t k xs v u at r q = (15 < length r) × IsMoved r q × ((all_had v u at xs q).r ≡ past_own_bytes k (stepped_by t.writes (stepped_by t.reads r)))
+-- registers before an instruction of k bytes whose operands make these touches, and those after its opcode, from which these
+-- operands are had
+abbrev pub AreBeforeTouches : Touches → ℕ → Operands → (r q : List ℕ) → Type 0
+AreBeforeTouches t k had r q = (15 < length r) × IsMoved r q × (had.r ≡ past_own_bytes k (stepped_by t.writes (stepped_by t.reads r)))
+
+-- a source is the first number of operands before an instruction of k bytes, whatever they touch
+abbrev pub IsFirstSource : Source → ℕ → List Operand → Type 0
+IsFirstSource n k xs = (t : Touches) (v u at : ℕ) (r q : List ℕ) →
+    AreBeforeTouches t k (all_had v u at xs q) r q → long_of (all_had v u at xs q) 0 ≡ sourced_by n v u r
 
 -- a number stays over an operand: that isn't in memory, or by another register
 abbrev pub is_kept_over : Number → Operand → Bool

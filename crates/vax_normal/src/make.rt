@@ -64,7 +64,9 @@ fn first_number(operands: &[Operand], length: u32) -> Option<Number>
 
 /// The first number of an operation, and the second.
 fn numbers_of(inputs: Inputs, operands: &[Operand], length: u32) -> Option<(Number, Number)>
-    ensures { IfSome result (λ n. (r q : List ℕ) → AreBefore length operands.now r q → (first_input inputs (all_at_hand operands.now q) ≡ number_by n.0 r) × (second_input inputs (all_at_hand operands.now q) ≡ number_by n.1 r)) }
+    ensures { IfSome result (λ n. (r q : List ℕ) → AreBefore length operands.now r q →
+        (first_input inputs (all_at_hand operands.now q) ≡ number_by n.0 r) ×
+        (second_input inputs (all_at_hand operands.now q) ≡ number_by n.1 r)) }
 {
     let zero = Number::constant(0);
     match inputs {
@@ -149,7 +151,8 @@ pub fn jump_of(displacement: u32, length: u32) -> u32
 
 /// By how many bytes a branch or a jump goes on from its own address, if that is fixed.
 fn jump_to(x: &Operand, length: u32) -> Option<u32>
-    ensures { IfSome result (λ jump. (r q : List ℕ) → slice_index q 15 ≡ plus (slice_index r 15) length → value_at_hand x.now.kind x.now.form.width x.now.spec q % 2 ^ 32 ≡ plus (slice_index r 15) jump) }
+    ensures { IfSome result (λ jump. (r q : List ℕ) → slice_index q 15 ≡ plus (slice_index r 15) length →
+        value_at_hand x.now.kind x.now.form.width x.now.spec q % 2 ^ 32 ≡ plus (slice_index r 15) jump) }
 {
     match x.kind {
         Kind::Branch(displacement) => Some(jump_of(displacement, length)),

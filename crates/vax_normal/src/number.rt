@@ -107,7 +107,9 @@ fn operands_length(operands: &[Operand]) -> u32
 pub fn relative_of(x: &Operand, rest: &[Operand], length: u32) -> Option<Number>
     ensures hand { IfSome result (λ n. is_at_hand x.now.kind ≡ true) }
     ensures pc { IfSome result (λ n. (n.register ≡ 15) × (n.mask ≡ 2 ^ 32 - 1)) }
-    ensures value { IfSome result (λ n. (r q : List ℕ) → plus (slice_index q 15) (operands_length rest.now) ≡ plus (slice_index r 15) length → value_at_hand x.now.kind x.now.form.width x.now.spec q % 2 ^ 32 ≡ number_by n r) }
+    ensures value { IfSome result (λ n. (r q : List ℕ) → plus (slice_index q 15) (operands_length rest.now)
+        ≡ plus (slice_index r 15) length → value_at_hand x.now.kind x.now.form.width x.now.spec q % 2 ^ 32
+        ≡ number_by n r) }
 {
     match (x.kind, x.spec.index) {
         (Kind::Address(Base::Displaced(displacement)), None) if x.spec.reg == 15 => Some(Number {

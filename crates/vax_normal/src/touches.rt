@@ -5,7 +5,7 @@ ghost use Rattle.vax_table.specs.Spelling.{IsWellFormed, view};
 ghost use Rattle.vax_normal.specs.AtHand.{IsMoved};
 ghost use Rattle.vax_normal.specs.InMemory.{IsInMemory, reach_stepped, sourced_by};
 ghost use Rattle.vax_normal.specs.Normal.{number_by};
-ghost use Rattle.vax_normal.specs.Touched.{AreBeforeTouches, AreTouched, IsClaimedAt, IsDoneIn, IsPutIn, all_had, dest_had, is_kept_over_all, is_kept_over, value_had};
+ghost use Rattle.vax_normal.specs.Touched.{AreBeforeTouches, AreTouched, IsClaimedAt, IsDoneIn, IsFirstSource, IsPutIn, all_had, dest_had, is_kept_over_all, is_kept_over, value_had};
 
 use crate::make::{is_at_hand, is_narrow};
 use crate::number::{number_of, relative_of};
@@ -171,7 +171,7 @@ pub fn source_at(i: usize, operands: &[Operand]) -> Option<Source>
 
 /// The address by PC that the first operand is.
 fn relative_source(operands: &[Operand], length: u32) -> Option<Source>
-    ensures { IfSome result (λ n. (t : Touches) (v u at : ℕ) (r q : List ℕ) → AreBeforeTouches t length operands.now v u at r q → long_of (all_had v u at operands.now q) 0 ≡ sourced_by n v u r) }
+    ensures { IfSome result (λ n. IsFirstSource n length operands.now) }
 {
     let [x, rest @ ..] = operands else {
         return None;
@@ -185,7 +185,7 @@ fn relative_source(operands: &[Operand], length: u32) -> Option<Source>
 
 /// The number that is read of the first operand, or the address by PC that it is.
 pub fn first_source(operands: &[Operand], length: u32) -> Option<Source>
-    ensures { IfSome result (λ n. (t : Touches) (v u at : ℕ) (r q : List ℕ) → AreBeforeTouches t length operands.now v u at r q → long_of (all_had v u at operands.now q) 0 ≡ sourced_by n v u r) }
+    ensures { IfSome result (λ n. IsFirstSource n length operands.now) }
 {
     match source_at(0, operands) {
         Some(source) => Some(source),
@@ -195,7 +195,10 @@ pub fn first_source(operands: &[Operand], length: u32) -> Option<Source>
 
 /// The first number of an operation, and the second.
 pub fn sources_of(inputs: Inputs, operands: &[Operand], length: u32) -> Option<(Source, Source)>
-    ensures { IfSome result (λ n. (t : Touches) (v u at : ℕ) (r q : List ℕ) → AreBeforeTouches t length operands.now v u at r q → (first_input inputs (all_had v u at operands.now q) ≡ sourced_by n.0 v u r) × (second_input inputs (all_had v u at operands.now q) ≡ sourced_by n.1 v u r)) }
+    ensures { IfSome result (λ n. (t : Touches) (v u at : ℕ) (r q : List ℕ) →
+        AreBeforeTouches t length (all_had v u at operands.now q) r q →
+        (first_input inputs (all_had v u at operands.now q) ≡ sourced_by n.0 v u r) ×
+        (second_input inputs (all_had v u at operands.now q) ≡ sourced_by n.1 v u r)) }
 {
     let zero = constant(0);
     match inputs {
@@ -243,7 +246,8 @@ fn nowhere(writes: &Option<Reach>) -> Option<u8>
 
 /// The register that gets a result, or 15.
 pub fn put_by(target: Target, operands: &[Operand], writes: &Option<Reach>) -> Option<u8>
-    ensures { IfSome result (λ n. (v u at : ℕ) (r q : List ℕ) → IsClaimedAt writes.now r at → IsPutIn n writes.now (target_of target (all_had v u at operands.now q)) r) }
+    ensures { IfSome result (λ n. (v u at : ℕ) (r q : List ℕ) → IsClaimedAt writes.now r at →
+        IsPutIn n writes.now (target_of target (all_had v u at operands.now q)) r) }
 {
     match target {
         Target::CodesOnly => nowhere(writes),

@@ -43,7 +43,9 @@ fn evaluate_all<S: Space>(
     v: &mut Values,
 ) -> Result<(), Trouble>
     requires { length operands.now ≤ 4 }
-    ensures outcome { left result (operands_with_registers v.new r.new) ≡ outcome (S.space space.now) (operands_from 0 (map (λ x. x.form) operands.now) (map (λ x. x.spec) operands.now) (operands_with_registers v.old r.old)) }
+    ensures outcome { left result (operands_with_registers v.new r.new)
+        ≡ outcome (S.space space.now) (operands_from 0 (map (λ x. x.form) operands.now) (map (λ x. x.spec) operands.now)
+        (operands_with_registers v.old r.old)) }
     ensures fits { OnOk result (AllFit (map (λ x. x.form) operands.now) (operands_with_registers v.new r.new)) }
 {
     let n = operands.len();

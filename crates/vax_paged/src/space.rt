@@ -25,7 +25,8 @@ impl Paged<'_> {
     /// The place that an entry gives an address, in the real mode.
     #[tactic(auto, unfolding(vax_arch::specs::Walk::granted))]
     fn granted(&self, entry: Pte, va: u32, write: bool) -> Result<u32, Trouble>
-        ensures is { with_trouble result ≡ at_byte (intent_of write) va (place_by va (granted may_of everywhere entry.0 (current_of self.now.world.now.psl.0) (intent_of write))) }
+        ensures is { with_trouble result ≡ at_byte (intent_of write) va
+            (place_by va (granted may_of everywhere entry.0 (current_of self.now.world.now.psl.0) (intent_of write))) }
         ensures small { IfOk result (λ place. place < 2 ^ 30) }
     {
         if !may(entry.prot(), self.world.psl.current(), intent_of(write)) {

@@ -113,7 +113,9 @@ impl Paged<'_> {
         requires memory { length self.now.memory.now < 2 ^ 32 }
         requires room { array_vec_len puts.old + 8 ≤ 160 }
         ensures room { array_vec_len puts.new ≤ array_vec_len puts.old + 8 }
-        ensures items { puts.new.items ≡ puts.old.items ++ puts_from (written_place self.now.memory.now self.now.world.now) (size_of store.now.width) store.now.va store.now.value }
+        ensures items { puts.new.items ≡ puts.old.items ++ puts_from
+            (written_place self.now.memory.now self.now.world.now)
+            (size_of store.now.width) store.now.va store.now.value }
     {
         let mut va = store.va;
         let mut rest = store.value;

@@ -172,7 +172,7 @@ left_sound : (m : ℕ) (o : Operands) (psw : ℕ) → length o.r ≡ m → Holds
 unfolding left_subroutine
 left_sound m o psw h = λ pc. none_stored 0 m [] _ refl (set_wide m (slice_set o.r 14 _) 15 pc (set_wide m o.r 14 _ h))
 
-looped_sound : (m : ℕ) (cs : List ℕ) (w : Width) (dest : Dest) (x : Alu) (taken : Bool) (to : ℕ) (o : Operands) (psw : ℕ) → cs ≡ destination_addresses w dest → length o.r ≡ m → Sound 1 m cs (looped w dest x taken to o psw)
+looped_sound : (m : ℕ) (cs : List ℕ) (w : Width) (dest : Dest) (x : Alu) (taken : Bool) (to : ℕ) (o : Operands) (psw : ℕ) → cs ≡ destination_addresses w dest → length o.r ≡ m → Sound 1 m cs (went_if taken to (looped w dest x o psw))
 looped_sound m cs w dest x taken to o psw c h = went_sound 1 m cs taken to _ (put_sound m cs dest w x.value _ c (none_stored 0 m [] o.r refl h))
 
 acb_sound : (m : ℕ) (cs : List ℕ) (w : Width) (o : Operands) (psw : ℕ) → cs ≡ destination_addresses w (dest_of o 2) → length o.r ≡ m → Sound 1 m cs (added_and_compared w o psw)

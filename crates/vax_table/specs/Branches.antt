@@ -32,9 +32,9 @@ left_subroutine o psw =
 abbrev pub keeping_c : ℕ → ℕ → ℕ
 keeping_c psw new = new / 2 * 2 + psw % 2
 
--- a loop's index becomes the result, and it branches where its test says so
-abbrev pub looped : Width → Dest → Alu → Bool → ℕ → Operands → ℕ → Effect
-looped w dest x taken to o psw = went_if taken to (put dest w x.value (record (begun o psw) { psw = keeping_c psw x.psw; trap = x.trap }))
+-- a loop's index becomes the result
+abbrev pub looped : Width → Dest → Alu → Operands → ℕ → Effect
+looped w dest x o psw = put dest w x.value (record (begun o psw) { psw = keeping_c psw x.psw; trap = x.trap })
 
 -- signed comparisons in a width
 abbrev pub is_less : Width → ℕ → ℕ → Bool
@@ -48,21 +48,21 @@ unfoldable pub added_and_compared : Width → Operands → ℕ → Effect
 added_and_compared w o psw =
     let x = alu_of Add (long_of o 1) (long_of o 2) w psw in
     let taken = if is_at_most w 0 (long_of o 1) then is_at_most w x.value (long_of o 0) else is_at_most w (long_of o 0) x.value in
-    looped w (dest_of o 2) x taken (long_of o 3) o psw
+    went_if taken (long_of o 3) (looped w (dest_of o 2) x o psw)
 
 -- AOB: limit, index, branch where the index is less than the limit, or is the limit where that counts too
 unfoldable pub added_one : Bool → Operands → ℕ → Effect
 added_one at_limit o psw =
     let x = alu_of Add 1 (long_of o 1) Long psw in
     let taken = if at_limit then is_at_most Long x.value (long_of o 0) else is_less Long x.value (long_of o 0) in
-    looped Long (dest_of o 1) x taken (long_of o 2) o psw
+    went_if taken (long_of o 2) (looped Long (dest_of o 1) x o psw)
 
 -- SOB: index, branch where the index is above zero, or is zero where that counts too
 unfoldable pub subtracted_one : Bool → Operands → ℕ → Effect
 subtracted_one at_zero o psw =
     let x = alu_of Sub 1 (long_of o 0) Long psw in
     let taken = if at_zero then is_at_most Long 0 x.value else is_less Long 0 x.value in
-    looped Long (dest_of o 0) x taken (long_of o 1) o psw
+    went_if taken (long_of o 1) (looped Long (dest_of o 0) x o psw)
 
 -- CASE: selector, base, limit. The table of words begins at the PC after the operands.
 unfoldable pub cased : Width → Operands → ℕ → Interaction Effect
@@ -93,8 +93,8 @@ abbrev pub bit_made : Option Bool → Dest → Width → ℕ → ℕ → Effect 
 bit_made None dest w k n e = e
 bit_made (Some b) dest w k n e = put dest w (with_bit b k n) e
 
-abbrev pub bit_tested : Bool → Option Bool → Dest → Width → ℕ → ℕ → ℕ → Effect → Effect
-bit_tested on becomes dest w k n to e = went_if (comes_out on (is_set n k)) to (bit_made becomes dest w k n e)
+abbrev pub bit_tested : Bool → ℕ → ℕ → ℕ → Effect → Effect
+bit_tested on k n to e = went_if (comes_out on (is_set n k)) to e
 
 -- a bit that may change is read with write intent
 abbrev pub bit_intent : Option Bool → Intent
@@ -109,10 +109,10 @@ byte_of_bit base position = plus base (reduced Long (int_div_euclid (signed_of L
 abbrev pub bit_in : Bool → Option Bool → Dest → ℕ → ℕ → Effect → Interaction Effect
 bit_in on becomes Nowhere position to e = Done e
 bit_in on becomes (Register n) position to e =
-    if nat_lt position 32 then Done (bit_tested on becomes (Register n) Long position (slice_index e.r n) to e) else Refuse ReservedOperand
+    if nat_lt position 32 then Done (bit_tested on position (slice_index e.r n) to (bit_made becomes (Register n) Long position (slice_index e.r n) e)) else Refuse ReservedOperand
 bit_in on becomes (Memory base) position to e =
     let at = byte_of_bit base position in
-    Touch (bit_intent becomes) at 1 (λ n. Done (bit_tested on becomes (Memory at) Byte (position % 8) n to e))
+    Touch (bit_intent becomes) at 1 (λ n. Done (bit_tested on (position % 8) n to (bit_made becomes (Memory at) Byte (position % 8) n e)))
 
 -- BBS, BBC and those that change the bit: position, base, branch
 unfoldable pub branched_on_bit : Bool → Option Bool → Operands → ℕ → Interaction Effect

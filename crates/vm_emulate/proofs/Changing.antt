@@ -12,6 +12,7 @@ use Rattle.vm_emulate.specs.declared.emulated.Emulated.{Emulated}
 use Rattle.vm_emulate.specs.declared.emulated.Emulated.TheVariants as outcomes
 use Rattle.vm_emulate.proofs.Telling.{follows_drops}
 use Rattle.vm_exception.specs.Attempted.{Stays}
+use Rattle.vm_exception.specs.Standing.{standing}
 use Rattle.vm_exception.specs.Initiated.{Initiates, InitiatesTo, IsInitiated, StopsWith}
 use Rattle.vm_exception.specs.declared.initiated.Initiated.TheVariants as starts
 use Rattle.vm_shadow.specs.Shadowed.{Shadowed}
@@ -33,17 +34,17 @@ goes_on h frames m' s s' g' stands b = record {
 }
 
 module _ (e : Exc) (m m' : Machine) (s s' : Shadowed) (g g' : GuestState) where
-  begun : (i : Initiation) → i ≡ initiate (guest_of m.memory g) e → IsInitiated i starts.Taken m s g m' s' g' → StandsFor m'.memory s' g' → HasPlace g.pages g.base g.start g' → OnlyGuest s m m' → Senses (mode_changed (initiate (guest_of m.memory g) e)) m s g outcomes.Done m' s' g'
+  begun : (i : Initiation) → i ≡ initiate (guest_of m.memory g) e → IsInitiated i starts.Taken (standing m s g) (standing m' s' g') → StandsFor m'.memory s' g' → HasPlace g.pages g.base g.start g' → OnlyGuest s m m' → Senses (mode_changed (initiate (guest_of m.memory g) e)) m s g outcomes.Done m' s' g'
   begun (Taken h frames) is b stands place only = subst (λ x. Senses (mode_changed x) m s g outcomes.Done m' s' g') is (record { is = goes_on h frames m' s s' g' stands b; stands = stands; place = place; only = only })
   begun (KernelStackBad h frames) is b stands place only = absurd b
   begun (StopsGuest stop) is b stands place only = absurd b
 
-  begun_bad : (i : Initiation) → i ≡ initiate (guest_of m.memory g) e → IsInitiated i starts.KernelStackBad m s g m' s' g' → StandsFor m'.memory s' g' → HasPlace g.pages g.base g.start g' → OnlyGuest s m m' → Senses (mode_changed (initiate (guest_of m.memory g) e)) m s g outcomes.Done m' s' g'
+  begun_bad : (i : Initiation) → i ≡ initiate (guest_of m.memory g) e → IsInitiated i starts.KernelStackBad (standing m s g) (standing m' s' g') → StandsFor m'.memory s' g' → HasPlace g.pages g.base g.start g' → OnlyGuest s m m' → Senses (mode_changed (initiate (guest_of m.memory g) e)) m s g outcomes.Done m' s' g'
   begun_bad (KernelStackBad h frames) is b stands place only = subst (λ x. Senses (mode_changed x) m s g outcomes.Done m' s' g') is (record { is = goes_on h frames m' s s' g' stands b; stands = stands; place = place; only = only })
   begun_bad (Taken h frames) is b stands place only = absurd b
   begun_bad (StopsGuest stop) is b stands place only = absurd b
 
-  stopped : (code : ℕ) (i : Initiation) → i ≡ initiate (guest_of m.memory g) e → IsInitiated i (starts.Stopped code) m s g m' s' g' → StandsFor m'.memory s' g' → HasPlace g.pages g.base g.start g' → OnlyGuest s m m' → Senses (mode_changed (initiate (guest_of m.memory g) e)) m s g (outcomes.Stopped code) m' s' g'
+  stopped : (code : ℕ) (i : Initiation) → i ≡ initiate (guest_of m.memory g) e → IsInitiated i (starts.Stopped code) (standing m s g) (standing m' s' g') → StandsFor m'.memory s' g' → HasPlace g.pages g.base g.start g' → OnlyGuest s m m' → Senses (mode_changed (initiate (guest_of m.memory g) e)) m s g (outcomes.Stopped code) m' s' g'
   stopped code (StopsGuest stop) is b stands place only = subst (λ x. Senses (mode_changed x) m s g (outcomes.Stopped code) m' s' g') is (record { is = b; stands = stands; place = place; only = only })
   stopped code (Taken h frames) is b stands place only = absurd b
   stopped code (KernelStackBad h frames) is b stands place only = absurd b

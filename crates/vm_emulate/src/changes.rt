@@ -35,7 +35,8 @@ fn mode_entered(g: &GuestState, to: Mode) -> Mode
 /// The walk of what CHM pushes on a mode's stack.
 fn walk_push<H: Hardware>(machine: &H, g: &GuestState, m: Mode, code: u32) -> Walked
     requires { 512 * (g.now.base + g.now.pages) ≤ length (H.machine machine.now).memory }
-    ensures { walked_of result ≡ push_walked (guest_of (H.machine machine.now).memory g.now) m (pointer_of (state_of g.now) (mode_number m)) (g.now.psl.0 ∷ pc_of (state_of g.now) ∷ code ∷ []) }
+    ensures { walked_of result ≡ push_walked (guest_of (H.machine machine.now).memory g.now) m
+        (pointer_of (state_of g.now) (mode_number m)) (g.now.psl.0 ∷ pc_of (state_of g.now) ∷ code ∷ []) }
 {
     let sp = pointer(g, usize::from(m.number()));
     walk_pushes(machine, g, m, sp, &[g.psl.0, g.r[15], code])
@@ -50,7 +51,8 @@ fn begin<H: Hardware>(
     code: u32,
 ) -> Emulated
     requires { StandsFor (H.machine machine.old).memory s.old g.old }
-    ensures { Senses (mode_changed (initiate (guest_of (H.machine machine.old).memory g.old) (Chm to code))) (H.machine machine.old) s.old g.old result (H.machine machine.new) s.new g.new }
+    ensures { Senses (mode_changed (initiate (guest_of (H.machine machine.old).memory g.old) (Chm to code)))
+        (H.machine machine.old) s.old g.old result (H.machine machine.new) s.new g.new }
 {
     match initiate(machine, s, g, Exc::Chm { to, code }) {
         Initiated::Taken | Initiated::KernelStackBad => Emulated::Done,
@@ -68,7 +70,8 @@ fn enter<H: Hardware>(
     code: u32,
 ) -> Emulated
     requires { StandsFor (H.machine machine.old).memory s.old g.old }
-    ensures { Senses (mode_change_sensed (guest_of (H.machine machine.old).memory g.old) to code) (H.machine machine.old) s.old g.old result (H.machine machine.new) s.new g.new }
+    ensures { Senses (mode_change_sensed (guest_of (H.machine machine.old).memory g.old) to code)
+        (H.machine machine.old) s.old g.old result (H.machine machine.new) s.new g.new }
 {
     let m = mode_entered(g, to);
     if m == Mode::Kernel {
@@ -97,7 +100,8 @@ pub fn change_mode<H: Hardware>(
     to: Mode,
 ) -> Emulated
     requires { StandsFor (H.machine machine.old).memory s.old g.old }
-    ensures { Senses (change_mode (guest_of (H.machine machine.old).memory g.old) t.now to) (H.machine machine.old) s.old g.old result (H.machine machine.new) s.new g.new }
+    ensures { Senses (change_mode (guest_of (H.machine machine.old).memory g.old) t.now to)
+        (H.machine machine.old) s.old g.old result (H.machine machine.new) s.new g.new }
 {
     if g.psl.on_interrupt_stack() {
         return stop(g, StopCode(StopReason::ChangedMode));

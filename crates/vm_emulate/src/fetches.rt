@@ -189,7 +189,8 @@ fn fetch_to_places<H: Hardware>(
     requires stands { StandsFor (H.machine machine.old).memory s.old g.old }
     requires dest { t.now.dest ≡ Memory at }
     requires places { ArePlaces (guest_of (H.machine machine.old).memory g.old) 4 at (Ok places) }
-    ensures { Senses (move_from_register (guest_of (H.machine machine.old).memory g.old) t.now) (H.machine machine.old) s.old g.old result (H.machine machine.new) s.new g.new }
+    ensures { Senses (move_from_register (guest_of (H.machine machine.old).memory g.old) t.now)
+        (H.machine machine.old) s.old g.old result (H.machine machine.new) s.new g.new }
 {
     match first_clear(machine, g, &addresses(at)) {
         Some(va) if is_readable(t.a) => meet_clear(machine, s, g, va),
@@ -214,7 +215,8 @@ fn fetch_to_memory<H: Hardware>(
 ) -> Emulated
     requires stands { StandsFor (H.machine machine.old).memory s.old g.old }
     requires dest { t.now.dest ≡ Memory at }
-    ensures { Senses (move_from_register (guest_of (H.machine machine.old).memory g.old) t.now) (H.machine machine.old) s.old g.old result (H.machine machine.new) s.new g.new }
+    ensures { Senses (move_from_register (guest_of (H.machine machine.old).memory g.old) t.now)
+        (H.machine machine.old) s.old g.old result (H.machine machine.new) s.new g.new }
 {
     match places_at(machine, g, at) {
         Ok(places) => fetch_to_places(machine, s, g, t, at, places),
@@ -232,7 +234,8 @@ pub fn move_from_register<H: Hardware>(
     t: &Trapped,
 ) -> Emulated
     requires { StandsFor (H.machine machine.old).memory s.old g.old }
-    ensures { Senses (move_from_register (guest_of (H.machine machine.old).memory g.old) t.now) (H.machine machine.old) s.old g.old result (H.machine machine.new) s.new g.new }
+    ensures { Senses (move_from_register (guest_of (H.machine machine.old).memory g.old) t.now)
+        (H.machine machine.old) s.old g.old result (H.machine machine.new) s.new g.new }
 {
     if let Dest::Memory(at) = t.dest {
         return fetch_to_memory(machine, s, g, t, at);

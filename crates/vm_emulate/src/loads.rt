@@ -263,7 +263,8 @@ fn load<H: Hardware>(
     requires block { IsBlock (guest_of (H.machine machine.old).memory g.old) block.now }
     requires inside { is_block_past (guest_of (H.machine machine.old).memory g.old) ≡ false }
     requires allowed { is_block_reserved (guest_of (H.machine machine.old).memory g.old) ≡ false }
-    ensures { Senses (loads_context (guest_of (H.machine machine.old).memory g.old) t.now.next_pc) (H.machine machine.old) s.old g.old result (H.machine machine.new) s.new g.new }
+    ensures { Senses (loads_context (guest_of (H.machine machine.old).memory g.old) t.now.next_pc)
+        (H.machine machine.old) s.old g.old result (H.machine machine.new) s.new g.new }
 {
     let before = process_of(g);
     let process = process_in(g, block, t.next_pc);
@@ -294,7 +295,8 @@ pub fn load_context<H: Hardware>(
     t: &Trapped,
 ) -> Emulated
     requires { StandsFor (H.machine machine.old).memory s.old g.old }
-    ensures { Senses (loads_context (guest_of (H.machine machine.old).memory g.old) t.now.next_pc) (H.machine machine.old) s.old g.old result (H.machine machine.new) s.new g.new }
+    ensures { Senses (loads_context (guest_of (H.machine machine.old).memory g.old) t.now.next_pc)
+        (H.machine machine.old) s.old g.old result (H.machine machine.new) s.new g.new }
 {
     if is_block_past(g) {
         return stop_past_memory(g);

@@ -88,7 +88,8 @@ pub fn move_to_register<H: Hardware, T: Port>(
     t: &Trapped,
 ) -> Emulated
     requires { StandsFor (H.machine machine.old).memory s.old g.old }
-    ensures senses { Senses (move_to_register (guest_of (H.machine machine.old).memory g.old) t.now) (H.machine machine.old) s.old g.old result (H.machine machine.new) s.new g.new }
+    ensures senses { Senses (move_to_register (guest_of (H.machine machine.old).memory g.old) t.now)
+        (H.machine machine.old) s.old g.old result (H.machine machine.new) s.new g.new }
     ensures shown { Appends T.may port.old port.new (shown_by result (move_to_register (guest_of (H.machine machine.old).memory g.old) t.now)) }
 {
     let registers = g.r;

@@ -60,7 +60,8 @@ fn read_in_page<H: Hardware>(machine: &H, g: &GuestState, va: u32) -> Result<u32
     requires partition { 512 * (g.now.base + g.now.pages) ≤ length (H.machine machine.now).memory }
     requires tables { AreAligned (tables_of g.now) }
     requires page { va % 512 ≤ 508 }
-    ensures { AnswersReading (guest_of (H.machine machine.now).memory g.now) (number_at (space_of (guest_of (H.machine machine.now).memory g.now)) Read 4 va) result }
+    ensures { AnswersReading (guest_of (H.machine machine.now).memory g.now)
+        (number_at (space_of (guest_of (H.machine machine.now).memory g.now)) Read 4 va) result }
 {
     match walk(machine, g, va, g.psl.current(), Intent::Read) {
         Walk::Frame { pa, .. } => Ok(long_in(machine, g, pa)),
@@ -73,7 +74,8 @@ fn read_in_page<H: Hardware>(machine: &H, g: &GuestState, va: u32) -> Result<u32
 fn read_by_bytes<H: Hardware>(machine: &H, g: &GuestState, va: u32) -> Result<u32, Unread>
     requires partition { 512 * (g.now.base + g.now.pages) ≤ length (H.machine machine.now).memory }
     requires tables { AreAligned (tables_of g.now) }
-    ensures { AnswersReading (guest_of (H.machine machine.now).memory g.now) (number_at (space_of (guest_of (H.machine machine.now).memory g.now)) Read 4 va) result }
+    ensures { AnswersReading (guest_of (H.machine machine.now).memory g.now)
+        (number_at (space_of (guest_of (H.machine machine.now).memory g.now)) Read 4 va) result }
 {
     let first = read_byte(machine, g, va)?;
     let second = read_byte(machine, g, va.wrapping_add(1))?;
@@ -86,7 +88,8 @@ fn read_by_bytes<H: Hardware>(machine: &H, g: &GuestState, va: u32) -> Result<u3
 pub fn read_walked<H: Hardware>(machine: &H, g: &GuestState, va: u32) -> Result<u32, Unread>
     requires partition { 512 * (g.now.base + g.now.pages) ≤ length (H.machine machine.now).memory }
     requires tables { AreAligned (tables_of g.now) }
-    ensures { AnswersReading (guest_of (H.machine machine.now).memory g.now) (number_at (space_of (guest_of (H.machine machine.now).memory g.now)) Read 4 va) result }
+    ensures { AnswersReading (guest_of (H.machine machine.now).memory g.now)
+        (number_at (space_of (guest_of (H.machine machine.now).memory g.now)) Read 4 va) result }
 {
     if va % 512 <= 508 {
         read_in_page(machine, g, va)

@@ -30,7 +30,8 @@ fn read_popped_in_page<H: Hardware>(machine: &H, g: &GuestState, sp: u32) -> Res
     requires partition { 512 * (g.now.base + g.now.pages) ≤ length (H.machine machine.now).memory }
     requires tables { AreAligned (tables_of g.now) }
     requires page { sp % 512 ≤ 504 }
-    ensures { ArePopped (guest_of (H.machine machine.now).memory g.now) (outcome (space_of (guest_of (H.machine machine.now).memory g.now)) (two_popped sp)) result }
+    ensures { ArePopped (guest_of (H.machine machine.now).memory g.now)
+        (outcome (space_of (guest_of (H.machine machine.now).memory g.now)) (two_popped sp)) result }
 {
     let _all = machine.pages();
     match walk(machine, g, sp, g.psl.current(), Intent::Read) {
@@ -48,7 +49,8 @@ fn read_popped_in_page<H: Hardware>(machine: &H, g: &GuestState, sp: u32) -> Res
 pub fn read_popped<H: Hardware>(machine: &H, g: &GuestState, sp: u32) -> Result<Popped, Unread>
     requires partition { 512 * (g.now.base + g.now.pages) ≤ length (H.machine machine.now).memory }
     requires tables { AreAligned (tables_of g.now) }
-    ensures { ArePopped (guest_of (H.machine machine.now).memory g.now) (outcome (space_of (guest_of (H.machine machine.now).memory g.now)) (two_popped sp)) result }
+    ensures { ArePopped (guest_of (H.machine machine.now).memory g.now)
+        (outcome (space_of (guest_of (H.machine machine.now).memory g.now)) (two_popped sp)) result }
 {
     if sp % 512 <= 504 {
         return read_popped_in_page(machine, g, sp);

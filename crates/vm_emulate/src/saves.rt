@@ -51,7 +51,8 @@ fn store_longs<H: Hardware>(machine: &mut H, s: &mut Shadow, at: u32, longs: &[u
     requires keeps { Keeps [] [] (H.machine machine.old).memory s.old }
     requires aligned { at % 4 ≡ 0 }
     requires inside { at + 4 * length longs.now ≤ 512 * s.old.pages }
-    ensures { Wrote (long_frames at (length longs.now)) (longs_stored at longs.now (own (H.machine machine.old).memory s.old)) (H.machine machine.old) s.old (H.machine machine.new) s.new }
+    ensures { Wrote (long_frames at (length longs.now)) (longs_stored at longs.now
+        (own (H.machine machine.old).memory s.old)) (H.machine machine.old) s.old (H.machine machine.new) s.new }
 {
     let mut place = at;
     for long in longs {
@@ -104,7 +105,8 @@ pub fn save_context<H: Hardware>(
     t: &Trapped,
 ) -> Emulated
     requires { StandsFor (H.machine machine.old).memory s.old g.old }
-    ensures { Senses (saves_context (guest_of (H.machine machine.old).memory g.old) t.now.next_pc) (H.machine machine.old) s.old g.old result (H.machine machine.new) s.new g.new }
+    ensures { Senses (saves_context (guest_of (H.machine machine.old).memory g.old) t.now.next_pc)
+        (H.machine machine.old) s.old g.old result (H.machine machine.new) s.new g.new }
 {
     match read_popped(machine, g, g.r[14]) {
         Ok(_) if is_block_past(g) => stop_past_memory(g),

@@ -7,6 +7,7 @@ use Rattle.vax_arch.specs.WalkLaws.{AreAligned}
 use Rattle.vax_arch.specs.declared.mode.Mode.{Mode}
 use Rattle.vax_hw.specs.Machine.{Machine}
 use Rattle.vm_exception.specs.Attempted.{Attempts, IsAttempted, Stays}
+use Rattle.vm_exception.specs.Standing.{standing}
 use Rattle.vm_exception.specs.Initiated.{Initiates, InitiatesTo, IsProper}
 use Rattle.vm_exception.specs.Wrote.{AreHomes, DropsAmong, Wrote}
 use Rattle.vm_exception.specs.declared.attempts.Attempt.{Attempt}
@@ -140,17 +141,17 @@ stopped_stands memory s g g' code stands state place = record {
     halted a = record { p0br = a.p0br; p0lr = a.p0lr; p1br = a.p1br; p1lr = a.p1lr; sbr = a.sbr; slr = a.slr; pcbb = a.pcbb; scbb = a.scbb; astlvl = a.astlvl; sisr = a.sisr; psl = a.psl; packets = a.packets; few = a.few }
 
 -- the outcome of an attempt, by the definition's
-pub by_arrival : (a : initiations.Attempt) (m : Machine) (s : Shadowed) (g : GuestState) (m' : Machine) (s' : Shadowed) (g' : GuestState) → IsAttempted a attempts.Arrives m s g m' s' g' → (h : Guest) × (frames : List ℕ) × (a ≡ Arrives h frames) × InitiatesTo h frames s m' s' g'
+pub by_arrival : (a : initiations.Attempt) (m : Machine) (s : Shadowed) (g : GuestState) (m' : Machine) (s' : Shadowed) (g' : GuestState) → IsAttempted a attempts.Arrives (standing m s g) (standing m' s' g') → (h : Guest) × (frames : List ℕ) × (a ≡ Arrives h frames) × InitiatesTo h frames s m' s' g'
 by_arrival (Arrives h frames) m s g m' s' g' b = (h, frames, refl, b)
 by_arrival (StackFaulty stack) m s g m' s' g' b = absurd b
 by_arrival (Halts stop) m s g m' s' g' b = absurd b
 
-pub by_fault : (a : initiations.Attempt) (stack : Bool) (m : Machine) (s : Shadowed) (g : GuestState) (m' : Machine) (s' : Shadowed) (g' : GuestState) → IsAttempted a (attempts.StackFaulty stack) m s g m' s' g' → (a ≡ StackFaulty stack) × Stays m s g m' s' g'
+pub by_fault : (a : initiations.Attempt) (stack : Bool) (m : Machine) (s : Shadowed) (g : GuestState) (m' : Machine) (s' : Shadowed) (g' : GuestState) → IsAttempted a (attempts.StackFaulty stack) (standing m s g) (standing m' s' g') → (a ≡ StackFaulty stack) × Stays m s g m' s' g'
 by_fault (Arrives h frames) stack m s g m' s' g' b = absurd b
 by_fault (StackFaulty x) stack m s g m' s' g' b = (ap StackFaulty (sym b.0), b.1)
 by_fault (Halts stop) stack m s g m' s' g' b = absurd b
 
-pub by_halt : (a : initiations.Attempt) (code : ℕ) (m : Machine) (s : Shadowed) (g : GuestState) (m' : Machine) (s' : Shadowed) (g' : GuestState) → IsAttempted a (attempts.Halts code) m s g m' s' g' → (stop : stops.Stop) × (a ≡ Halts stop) × (code ≡ stop_code stop) × Stays m s g m' s' g'
+pub by_halt : (a : initiations.Attempt) (code : ℕ) (m : Machine) (s : Shadowed) (g : GuestState) (m' : Machine) (s' : Shadowed) (g' : GuestState) → IsAttempted a (attempts.Halts code) (standing m s g) (standing m' s' g') → (stop : stops.Stop) × (a ≡ Halts stop) × (code ≡ stop_code stop) × Stays m s g m' s' g'
 by_halt (Arrives h frames) code m s g m' s' g' b = absurd b
 by_halt (StackFaulty x) code m s g m' s' g' b = absurd b
 by_halt (Halts stop) code m s g m' s' g' b = (stop, refl, b.0, b.1)

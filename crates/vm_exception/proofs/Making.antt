@@ -4,6 +4,7 @@ use Rattle.vax_hw.specs.Machine.{Machine}
 use Rattle.vm_exception.specs.Made.{MakesStep}
 use Rattle.vm_exception.specs.Sources.{HasLevel, HasRequest}
 use Rattle.vm_exception.proofs.Requests.{has_level, has_request, taken_keeps}
+use Rattle.vm_exception.specs.Standing.{standing}
 use Rattle.vm_exception.specs.Initiated.{Initiates, InitiatesTo, IsInitiated}
 use Rattle.vm_exception.specs.declared.initiated.Initiated.{Initiated}
 use Rattle.vm_exception.specs.declared.initiated.Initiated.TheVariants as outcomes
@@ -23,7 +24,7 @@ use Rattle.vm_state.proofs.Initiations.{LevelFits, initiate_keeps}
 
 -- Where the guest stops, that is shown.
 module _ (code : ℕ) (m m' : Machine) (s s' : Shadowed) (g g' : GuestState) where
-  stop_shown : (kind : Kind) (x : Initiation) → IsInitiated x (outcomes.Stopped code) m s g m' s' g' → stop_text code (pc_of (state_of g')) ≡ (initiated_in kind (guest_of m.memory g) x).shown
+  stop_shown : (kind : Kind) (x : Initiation) → IsInitiated x (outcomes.Stopped code) (standing m s g) (standing m' s' g') → stop_text code (pc_of (state_of g')) ≡ (initiated_in kind (guest_of m.memory g) x).shown
   stop_shown kind (StopsGuest stop) b = λ i. stop_text (b.0 i) (pc_of (b.1.state i))
   stop_shown kind (Taken h frames) b = absurd b
   stop_shown kind (KernelStackBad h frames) b = absurd b
@@ -31,7 +32,7 @@ module _ (code : ℕ) (m m' : Machine) (s s' : Shadowed) (g g' : GuestState) whe
   pub begin_stops : (e : Exc) (kind : Kind) → Initiates e m s g (outcomes.Stopped code) m' s' g' → stop_text code (pc_of (state_of g')) ≡ (initiated_in kind (guest_of m.memory g) (initiate (guest_of m.memory g) e)).shown
   begin_stops e kind k = stop_shown kind (initiate (guest_of m.memory g) e) k.is
 
-  alike : (x : Source) (y : Initiation) → IsInitiated y (outcomes.Stopped code) m s g m' s' g' → (initiated_in Interrupt (guest_of m.memory g) y).shown ≡ (interrupted (guest_of m.memory g) x y).shown
+  alike : (x : Source) (y : Initiation) → IsInitiated y (outcomes.Stopped code) (standing m s g) (standing m' s' g') → (initiated_in Interrupt (guest_of m.memory g) y).shown ≡ (interrupted (guest_of m.memory g) x y).shown
   alike x (StopsGuest stop) b = refl
   alike x (Taken h frames) b = absurd b
   alike x (KernelStackBad h frames) b = absurd b
@@ -47,7 +48,7 @@ module _ (kind : Kind) (m m' : Machine) (s s' : Shadowed) (g g' : GuestState) wh
     pub makes : MakesStep (initiated_in kind (guest_of m.memory g) x) m s g m' s' g'
     pub shown : [] ≡ (initiated_in kind (guest_of m.memory g) x).shown
 
-  goes_on : (x : Initiation) (r : Initiated) → ((code : ℕ) → r ≢ outcomes.Stopped code) → IsInitiated x r m s g m' s' g' → StandsFor m'.memory s' g' → HasPlace g.pages g.base g.start g' → OnlyGuest s m m' → GoesOn x
+  goes_on : (x : Initiation) (r : Initiated) → ((code : ℕ) → r ≢ outcomes.Stopped code) → IsInitiated x r (standing m s g) (standing m' s' g') → StandsFor m'.memory s' g' → HasPlace g.pages g.base g.start g' → OnlyGuest s m m' → GoesOn x
   goes_on (Taken h frames) outcomes.Taken n b stands place only = record { makes = record { guest = b.guest; drops = b.drops; stands = stands; place = place; only = only }; shown = refl }
   goes_on (KernelStackBad h frames) outcomes.KernelStackBad n b stands place only = record { makes = record { guest = b.guest; drops = b.drops; stands = stands; place = place; only = only }; shown = refl }
   goes_on x (outcomes.Stopped code) n b stands place only = absurd (n code refl)
@@ -67,7 +68,7 @@ fits Receiver h = omega arith
 fits Transmitter h = omega arith
 fits (Software level) h = let small : level < 16 = h in omega arith
 
-by_taken : (x : Initiation) (m m' : Machine) (s s' : Shadowed) (g g' : GuestState) → IsInitiated x outcomes.Taken m s g m' s' g' → (h : Guest) × (frames : List ℕ) × (x ≡ Taken h frames) × InitiatesTo h frames s m' s' g'
+by_taken : (x : Initiation) (m m' : Machine) (s s' : Shadowed) (g g' : GuestState) → IsInitiated x outcomes.Taken (standing m s g) (standing m' s' g') → (h : Guest) × (frames : List ℕ) × (x ≡ Taken h frames) × InitiatesTo h frames s m' s' g'
 by_taken (Taken h frames) m m' s s' g g' b = (h, frames, refl, b)
 by_taken (KernelStackBad h frames) m m' s s' g g' b = absurd b
 by_taken (StopsGuest stop) m m' s s' g g' b = absurd b
@@ -83,8 +84,8 @@ module _ (x : Source) (e : Exc) (m m' : Machine) (s s' : Shadowed) (g g' : Guest
   abbrev whole : Initiation
   whole = initiate (guest_of m.memory g) (interrupt_of x)
 
-  taken_now : IsInitiated whole outcomes.Taken m s g m' s' g'
-  taken_now = subst (λ y. IsInitiated (initiate (guest_of m.memory g) y) outcomes.Taken m s g m' s' g') is start.is
+  taken_now : IsInitiated whole outcomes.Taken (standing m s g) (standing m' s' g')
+  taken_now = subst (λ y. IsInitiated (initiate (guest_of m.memory g) y) outcomes.Taken (standing m s g) (standing m' s' g')) is start.is
 
   -- the requests of software levels are as before
   requests_stay : (state_of g').sisr ≡ (state_of g).sisr
@@ -111,7 +112,7 @@ module _ (x : Source) (e : Exc) (m m' : Machine) (s s' : Shadowed) (g g' : Guest
     ended_place : HasPlace g.pages g.base g.start g2
     ended_place = record { pages = place.pages ∙ start.place.pages; base = place.base ∙ start.place.base; start = place.start ∙ start.place.start }
 
-    ended : (y : Initiation) → IsInitiated y outcomes.Taken m s g m' s' g' → MakesStep (interrupted (guest_of m.memory g) x y) m s g m' s' g2
+    ended : (y : Initiation) → IsInitiated y outcomes.Taken (standing m s g) (standing m' s' g') → MakesStep (interrupted (guest_of m.memory g) x y) m s g m' s' g2
     ended (Taken h frames) b =
         let memory : partition_of m'.memory g2 ≡ h.memory = (λ i. part m'.memory (512 * place.base i) (512 * place.pages i)) ∙ ap (λ (y : Guest). y.memory) b.guest in
         let later : state_of g2 ≡ (source_row x).taken h.state = state ∙ ap (λ (y : Guest). (source_row x).taken y.state) b.guest in

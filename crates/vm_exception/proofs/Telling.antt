@@ -3,6 +3,7 @@ use Rattle.std.proofs.Common.{◌≡◌, ℕ, refl, ap, ◌∙◌}
 use Rattle.vax_hw.specs.Machine.{Machine}
 use Rattle.vm_exception.specs.Noted.{noted, taken_by, vector_taken}
 use Rattle.vm_exception.specs.declared.note.Note.{Note}
+use Rattle.vm_exception.specs.Standing.{standing}
 use Rattle.vm_exception.specs.Initiated.{Initiates, IsInitiated}
 use Rattle.vm_exception.specs.declared.initiated.Initiated.{Initiated}
 use Rattle.vm_exception.specs.declared.initiated.Initiated.TheVariants as outcomes
@@ -13,7 +14,7 @@ use Rattle.vm_state.specs.declared.exception.Exc.{Exc}
 use Rattle.vm_state.specs.declared.guest_state.GuestState.{GuestState}
 
 module _ (m m' : Machine) (s s' : Shadowed) (g g' : GuestState) (e : Exc) where
-  tells_by : (x : Initiation) (r : Initiated) → IsInitiated x r m s g m' s' g' → noted r (vector_offset e) ≡ vector_taken e x
+  tells_by : (x : Initiation) (r : Initiated) → IsInitiated x r (standing m s g) (standing m' s' g') → noted r (vector_offset e) ≡ vector_taken e x
   tells_by (Taken h frames) outcomes.Taken b = refl
   tells_by (KernelStackBad h frames) outcomes.KernelStackBad b = refl
   tells_by (StopsGuest stop) (outcomes.Stopped code) b = refl

@@ -1,6 +1,7 @@
 -- The initiation of an exception or an interrupt, over a machine and a guest's shadow page tables.
 use Rattle.std.specs.Prelude.{◌≡◌, ◌<◌, ℕ, Some, List}
 use Rattle.vax_hw.specs.Machine.{Machine}
+use Rattle.vm_exception.specs.Standing.{Standing, standing}
 use Rattle.vm_exception.specs.Wrote.{DropsAmong}
 use Rattle.vm_exception.specs.declared.initiated.Initiated.{Initiated}
 use Rattle.vm_exception.specs.declared.initiated.Initiated.TheVariants as outcomes
@@ -26,11 +27,12 @@ pub record StopsWith (code : ℕ) (m : Machine) (s : Shadowed) (g : GuestState) 
   pub shadow : s' ≡ s
 
 -- by the definition
-abbrev pub IsInitiated : Initiation → Initiated → Machine → Shadowed → GuestState → Machine → Shadowed → GuestState → Type 0
-IsInitiated (Taken h frames) outcomes.Taken m s g m' s' g' = InitiatesTo h frames s m' s' g'
-IsInitiated (KernelStackBad h frames) outcomes.KernelStackBad m s g m' s' g' = InitiatesTo h frames s m' s' g'
-IsInitiated (StopsGuest stop) (outcomes.Stopped code) m s g m' s' g' = (code ≡ stop_code stop) × StopsWith code m s g m' s' g'
-IsInitiated _ _ m s g m' s' g' = ⊥
+abbrev pub IsInitiated : Initiation → Initiated → (before after : Standing) → Type 0
+IsInitiated (Taken h frames) outcomes.Taken x y = InitiatesTo h frames x.tables y.machine y.tables y.state
+IsInitiated (KernelStackBad h frames) outcomes.KernelStackBad x y = InitiatesTo h frames x.tables y.machine y.tables y.state
+IsInitiated (StopsGuest stop) (outcomes.Stopped code) x y =
+    (code ≡ stop_code stop) × StopsWith code x.machine x.tables x.state y.machine y.tables y.state
+IsInitiated _ _ x y = ⊥
 
 -- an interrupt's level is one of the 32, and its vector is in the first 512 bytes of the system control block
 abbrev pub IsProper : Exc → Type 0
@@ -38,7 +40,7 @@ IsProper (Interrupt level vector) = (level < 32) × (vector < 512)
 IsProper _ = Unit {0}
 
 pub record Initiates (e : Exc) (m : Machine) (s : Shadowed) (g : GuestState) (result : Initiated) (m' : Machine) (s' : Shadowed) (g' : GuestState) : Type 0 where
-  pub is : IsInitiated (initiate (guest_of m.memory g) e) result m s g m' s' g'
+  pub is : IsInitiated (initiate (guest_of m.memory g) e) result (standing m s g) (standing m' s' g')
   pub stands : StandsFor m'.memory s' g'
   pub place : HasPlace g.pages g.base g.start g'
   pub only : OnlyGuest s m m'

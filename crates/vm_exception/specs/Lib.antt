@@ -1,5 +1,6 @@
 pub mod Wrote
 pub mod Pushed
+pub mod Standing
 pub mod Initiated
 pub mod Attempted
 pub mod Sources

@@ -1,6 +1,6 @@
 ghost use Rattle.std.specs.Prelude.{◌≡◌, Some};
 ghost use Rattle.vm_console.specs.Appends.{Appends};
-ghost use Rattle.vm_exception.specs.Made.{MakesStep};
+ghost use Rattle.vm_exception.specs.Made.{MakesStep, interrupted_by};
 ghost use Rattle.vm_exception.specs.Noted.{taken_by};
 ghost use Rattle.vm_exception.specs.Sources.{source_of};
 ghost use Rattle.vm_exception.specs.Initiated.{IsProper};
@@ -9,7 +9,7 @@ ghost use Rattle.vm_state.specs.Initiate.{initiate};
 ghost use Rattle.vm_state.specs.Interrupts.{due, interrupt_of};
 ghost use Rattle.vm_state.specs.Partition.{guest_of};
 ghost use Rattle.vm_state.specs.State.{state_of};
-ghost use Rattle.vm_state.specs.Step.{Kind, initiated_in, interrupted};
+ghost use Rattle.vm_state.specs.Step.{Kind, initiated_in};
 
 use crate::entry::vector_offset;
 use crate::initiated::Initiated;
@@ -36,8 +36,12 @@ pub fn begin<H: Hardware, T: Port>(
 ) -> Note
     requires stands { StandsFor (H.machine machine.old).memory s.old g.old }
     requires proper { IsProper e }
-    ensures makes { (kind : Kind) → MakesStep (initiated_in kind (guest_of (H.machine machine.old).memory g.old) (initiate (guest_of (H.machine machine.old).memory g.old) e)) (H.machine machine.old) s.old g.old (H.machine machine.new) s.new g.new }
-    ensures shown { (kind : Kind) → Appends T.may port.old port.new (initiated_in kind (guest_of (H.machine machine.old).memory g.old) (initiate (guest_of (H.machine machine.old).memory g.old) e)).shown }
+    ensures makes { (kind : Kind) → MakesStep (initiated_in kind (guest_of (H.machine machine.old).memory g.old)
+        (initiate (guest_of (H.machine machine.old).memory g.old) e)) (H.machine machine.old) s.old g.old
+        (H.machine machine.new) s.new g.new }
+    ensures shown { (kind : Kind) → Appends T.may port.old port.new
+        (initiated_in kind (guest_of (H.machine machine.old).memory g.old)
+        (initiate (guest_of (H.machine machine.old).memory g.old) e)).shown }
     ensures note { result ≡ taken_by (guest_of (H.machine machine.old).memory g.old) e }
 {
     let offset = vector_offset(e);
@@ -62,8 +66,9 @@ pub fn interrupt<H: Hardware, T: Port>(
 ) -> Note
     requires stands { StandsFor (H.machine machine.old).memory s.old g.old }
     requires due { due (state_of g.old) ≡ Some (source_of source) }
-    ensures makes { MakesStep (interrupted (guest_of (H.machine machine.old).memory g.old) (source_of source) (initiate (guest_of (H.machine machine.old).memory g.old) (interrupt_of (source_of source)))) (H.machine machine.old) s.old g.old (H.machine machine.new) s.new g.new }
-    ensures shown { Appends T.may port.old port.new (interrupted (guest_of (H.machine machine.old).memory g.old) (source_of source) (initiate (guest_of (H.machine machine.old).memory g.old) (interrupt_of (source_of source)))).shown }
+    ensures makes { MakesStep (interrupted_by (guest_of (H.machine machine.old).memory g.old) (source_of source))
+        (H.machine machine.old) s.old g.old (H.machine machine.new) s.new g.new }
+    ensures shown { Appends T.may port.old port.new (interrupted_by (guest_of (H.machine machine.old).memory g.old) (source_of source)).shown }
     ensures note { result ≡ taken_by (guest_of (H.machine machine.old).memory g.old) (interrupt_of (source_of source)) }
 {
     match initiate(machine, s, g, source.exception()) {

@@ -20,7 +20,9 @@ fn mark_entry<H: Hardware>(machine: &mut H, s: &mut Shadow, base: u32, place: u3
     requires base { s.old.base ≡ base }
     requires aligned { place % 4 ≡ 0 }
     requires inside { place + 4 ≤ 512 * s.old.pages }
-    ensures { Wrote (mark_written (own (H.machine machine.old).memory s.old) (Some place)) (marked place (own (H.machine machine.old).memory s.old)) (H.machine machine.old) s.old (H.machine machine.new) s.new }
+    ensures { Wrote (mark_written (own (H.machine machine.old).memory s.old) (Some place))
+        (marked place (own (H.machine machine.old).memory s.old)) (H.machine machine.old) s.old
+        (H.machine machine.new) s.new }
 {
     let _all = machine.pages();
     let entry = Pte(machine.read_long(512 * base + place));
@@ -34,7 +36,9 @@ fn mark_homes<H: Hardware>(machine: &mut H, s: &mut Shadow, base: u32, homes: &[
     requires keeps { Keeps [] [] (H.machine machine.old).memory s.old }
     requires base { s.old.base ≡ base }
     requires homes { AreHomes (512 * s.old.pages) (map home_of homes.now) }
-    ensures { Wrote (frames_pushed (own (H.machine machine.old).memory s.old) (map home_of homes.now)) (all_marked (map home_of homes.now) (own (H.machine machine.old).memory s.old)) (H.machine machine.old) s.old (H.machine machine.new) s.new }
+    ensures { Wrote (frames_pushed (own (H.machine machine.old).memory s.old) (map home_of homes.now))
+        (all_marked (map home_of homes.now) (own (H.machine machine.old).memory s.old)) (H.machine machine.old) s.old
+        (H.machine machine.new) s.new }
 {
     let mut last = None;
     for home in homes {
@@ -100,7 +104,9 @@ pub fn push<H: Hardware>(machine: &mut H, s: &mut Shadow, base: u32, homes: &[Ho
     requires keeps { Keeps [] [] (H.machine machine.old).memory s.old }
     requires base { s.old.base ≡ base }
     requires homes { AreHomes (512 * s.old.pages) (map home_of homes.now) }
-    ensures { Wrote (frames_pushed (own (H.machine machine.old).memory s.old) (map home_of homes.now)) (pushed (map home_of homes.now) (own (H.machine machine.old).memory s.old)) (H.machine machine.old) s.old (H.machine machine.new) s.new }
+    ensures { Wrote (frames_pushed (own (H.machine machine.old).memory s.old) (map home_of homes.now))
+        (pushed (map home_of homes.now) (own (H.machine machine.old).memory s.old)) (H.machine machine.old) s.old
+        (H.machine machine.new) s.new }
 {
     mark_homes(machine, s, base, homes);
     put_homes(machine, s, homes);

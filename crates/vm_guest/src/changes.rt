@@ -21,7 +21,9 @@ pub fn put_state<H: Hardware>(
     requires stands { StandsFor (H.machine machine.old).memory s.old g.old }
     requires allowed { AreAllowed (512 * state.pages) (state_of state) }
     requires place { HasPlace g.old.pages g.old.base g.old.start state }
-    ensures { Becomes (record (guest_of (H.machine machine.old).memory g.old) { state = state_of state }) (H.machine machine.old) (record { state = g.old; shadow = s.old }) (H.machine machine.new) (record { state = g.new; shadow = s.new }) }
+    ensures { Becomes (record (guest_of (H.machine machine.old).memory g.old) { state = state_of state })
+        (H.machine machine.old) (record { state = g.old; shadow = s.old }) (H.machine machine.new)
+        (record { state = g.new; shadow = s.new }) }
 {
     *g = state;
     s.switch(machine, g);
@@ -30,8 +32,12 @@ pub fn put_state<H: Hardware>(
 /// A guest starts, and its shadow page tables switch to its registers.
 pub fn restart<H: Hardware>(machine: &mut H, s: &mut Shadow, g: &mut GuestState)
     requires stands { StandsFor (H.machine machine.old).memory s.old g.old }
-    ensures becomes { Becomes (record (guest_of (H.machine machine.old).memory g.old) { state = started g.old.start g.old.modify_faults }) (H.machine machine.old) (record { state = g.old; shadow = s.old }) (H.machine machine.new) (record { state = g.new; shadow = s.new }) }
-    ensures present { KeepsPresent (touching_reset (record (guest_of (H.machine machine.old).memory g.old) { state = started g.old.start g.old.modify_faults })) (record { state = g.old; shadow = s.old }) (record { state = g.new; shadow = s.new }) }
+    ensures becomes { Becomes (record (guest_of (H.machine machine.old).memory g.old)
+        { state = started g.old.start g.old.modify_faults }) (H.machine machine.old)
+        (record { state = g.old; shadow = s.old }) (H.machine machine.new) (record { state = g.new; shadow = s.new }) }
+    ensures present { KeepsPresent (touching_reset (record (guest_of (H.machine machine.old).memory g.old)
+        { state = started g.old.start g.old.modify_faults })) (record { state = g.old; shadow = s.old })
+        (record { state = g.new; shadow = s.new }) }
 {
     g.reset();
     s.switch(machine, g);

@@ -97,7 +97,8 @@ impl Guest {
         requires stands { IsShadowedIn (H.machine machine.old).memory self.old }
         requires allowed { AreAllowed (512 * state.pages) (state_of state) }
         requires place { HasPlace self.old.state.pages self.old.state.base self.old.state.start state }
-        ensures { Becomes (record (guest_in (H.machine machine.old).memory self.old) { state = state_of state }) (H.machine machine.old) self.old (H.machine machine.new) self.new }
+        ensures { Becomes (record (guest_in (H.machine machine.old).memory self.old) { state = state_of state })
+            (H.machine machine.old) self.old (H.machine machine.new) self.new }
     {
         put_state(machine, &mut self.shadow, &mut self.state, state);
     }
@@ -105,8 +106,11 @@ impl Guest {
     /// It runs from its start address on, as one that starts. Its memory stays; packets that wait are dropped.
     pub fn start<H: Hardware>(&mut self, machine: &mut H)
         requires { IsShadowedIn (H.machine machine.old).memory self.old }
-        ensures becomes { Becomes (record (guest_in (H.machine machine.old).memory self.old) { state = started self.old.state.start self.old.state.modify_faults }) (H.machine machine.old) self.old (H.machine machine.new) self.new }
-        ensures present { KeepsPresent (touching_reset (record (guest_in (H.machine machine.old).memory self.old) { state = started self.old.state.start self.old.state.modify_faults })) self.old self.new }
+        ensures becomes { Becomes (record (guest_in (H.machine machine.old).memory self.old)
+            { state = started self.old.state.start self.old.state.modify_faults }) (H.machine machine.old) self.old
+            (H.machine machine.new) self.new }
+        ensures present { KeepsPresent (touching_reset (record (guest_in (H.machine machine.old).memory self.old)
+            { state = started self.old.state.start self.old.state.modify_faults })) self.old self.new }
     {
         restart(machine, &mut self.shadow, &mut self.state);
     }
@@ -135,8 +139,10 @@ impl Guest {
         steps: u32,
     ) -> Counts
         requires { IsShadowedIn (H.machine machine.old).memory self.old }
-        ensures advances { Advances T.may steps port.old port.new (H.machine machine.old) self.old.shadow self.old.state (H.machine machine.new) self.new.shadow self.new.state result }
-        ensures pays { Pays (touching_steps steps (guest_in (H.machine machine.old).memory self.old)) (H.machine machine.old) self.old.shadow (H.machine machine.new) self.new.shadow }
+        ensures advances { Advances T.may steps port.old port.new (H.machine machine.old) self.old.shadow self.old.state
+            (H.machine machine.new) self.new.shadow self.new.state result }
+        ensures pays { Pays (touching_steps steps (guest_in (H.machine machine.old).memory self.old))
+            (H.machine machine.old) self.old.shadow (H.machine machine.new) self.new.shadow }
     {
         advance(machine, &mut self.shadow, &mut self.state, port, steps)
     }
@@ -144,8 +150,10 @@ impl Guest {
     /// It takes one step as `advance` does; the step's note is answered besides.
     pub fn step<H: Hardware, T: Port>(&mut self, machine: &mut H, port: &mut T) -> Once
         requires { IsShadowedIn (H.machine machine.old).memory self.old }
-        ensures advances { Advances T.may 1 port.old port.new (H.machine machine.old) self.old.shadow self.old.state (H.machine machine.new) self.new.shadow self.new.state result.counts }
-        ensures pays { Pays (touching_steps 1 (guest_in (H.machine machine.old).memory self.old)) (H.machine machine.old) self.old.shadow (H.machine machine.new) self.new.shadow }
+        ensures advances { Advances T.may 1 port.old port.new (H.machine machine.old) self.old.shadow self.old.state
+            (H.machine machine.new) self.new.shadow self.new.state result.counts }
+        ensures pays { Pays (touching_steps 1 (guest_in (H.machine machine.old).memory self.old))
+            (H.machine machine.old) self.old.shadow (H.machine machine.new) self.new.shadow }
         ensures note { result.note ≡ note_of (guest_in (H.machine machine.old).memory self.old) }
     {
         advance_once(machine, &mut self.shadow, &mut self.state, port)
@@ -162,7 +170,8 @@ impl Guest {
     pub fn store<H: Hardware>(&mut self, machine: &mut H, pa: u32, bytes: &[u8])
         requires stands { IsShadowedIn (H.machine machine.old).memory self.old }
         requires inside { pa + length bytes.now ≤ 512 * self.old.state.pages }
-        ensures becomes { Becomes (with_bytes pa bytes.now (guest_in (H.machine machine.old).memory self.old)) (H.machine machine.old) self.old (H.machine machine.new) self.new }
+        ensures becomes { Becomes (with_bytes pa bytes.now (guest_in (H.machine machine.old).memory self.old))
+            (H.machine machine.old) self.old (H.machine machine.new) self.new }
         ensures drops { Drops (frames_from pa bytes.now) self.old.shadow self.new.shadow }
         ensures present { KeepsPresent (touching_write (guest_in (H.machine machine.old).memory self.old) (frames_from pa bytes.now)) self.old self.new }
     {

@@ -4,8 +4,8 @@ use Rattle.std.proofs.lemmas.Bool.{not-true}
 use Rattle.vax_arch.specs.Fields.{current_of, is_modified}
 use Rattle.vax_arch.specs.declared.mode.Intent.{Intent}
 use Rattle.vax_arch.specs.declared.mode.Intent.TheVariants as intents
-use Rattle.vax_hw.specs.Machine.{Machine, is_real_bit_clear as machine_clear, machine_space, machine_tables}
-use Rattle.vax_hw.specs.Real.{retired_by_try, is_write, carried_out, machine_step, retired_by_probe}
+use Rattle.vax_hw.specs.Machine.{Machine, is_real_bit_clear as machine_clear, machine_space}
+use Rattle.vax_hw.specs.Real.{retired_by_try, is_write, carried_out, machine_step, retired_by_probe, real_probe}
 use Rattle.std.proofs.lemmas.Option.{none-some}
 use Rattle.vax_arch.specs.Ring.{ring_of}
 use Rattle.vax_arch.specs.declared.mode.Mode.{Mode}
@@ -14,7 +14,7 @@ use Rattle.vax_table.specs.Probing.{last_of, probe_mode}
 use Rattle.vm_shadow.specs.Layout.{real_tables}
 use Rattle.vm_shadow.specs.StandsFor.{IsPresent}
 use Rattle.vm_shadow.specs.declared.source.Source.{Source}
-use Rattle.vax_hw.specs.RealTables.{both_judged, byte_by as byte_at, access_judged, real_probe}
+use Rattle.vax_hw.specs.RealTables.{both_judged, byte_by as byte_at, access_judged}
 use Rattle.vax_hw.specs.declared.world.Exit.{Exit}
 use Rattle.vax_hw.specs.declared.world.Exit.TheVariants.{Denied, Emulate, Modify, NotValid, Refused}
 use Rattle.vax_table.specs.Claims.{claims}
@@ -182,7 +182,7 @@ module _ (opened : List ℕ) (m : Machine) (s : Shadowed) (g : GuestState) (k : 
       let two = probes_filled_entries opened m.memory s g mode i last k.keeps k.serves low (ap is_some f) q in
       absurd (both_there _ _ machine_step two none)
 
-  probe_met : (opcode : ℕ) (i : Intent) (o : Operands) (e : Exit) (j : Option Bool) → real_probe m.memory (machine_tables m.world) m.world.psl.0 i (long_of o 0) (long_of o 1) (long_of o 2) ≡ j → guest_try (guest_of m.memory g) ≡ Completes (meant opcode (Probes i o)) → retired_by_probe m opcode i o j ≡ Err e → Meets e m.memory s g
+  probe_met : (opcode : ℕ) (i : Intent) (o : Operands) (e : Exit) (j : Option Bool) → real_probe m.memory m.world i (long_of o 0) (long_of o 1) (long_of o 2) ≡ j → guest_try (guest_of m.memory g) ≡ Completes (meant opcode (Probes i o)) → retired_by_probe m opcode i o j ≡ Err e → Meets e m.memory s g
   probe_met opcode i o e None is t h =
       let same : Emulate (trap_of (probe_of i) o) ≡ e = cc in
       let first = long_of o 2 in

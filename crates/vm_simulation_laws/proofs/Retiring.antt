@@ -8,8 +8,8 @@ use Rattle.vax_arch.specs.Walk.{page_of}
 use Rattle.vax_arch.specs.declared.mode.Intent.{Intent}
 use Rattle.vax_arch.specs.declared.mode.Intent.TheVariants as intents
 use Rattle.vax_hw.specs.Machine.{Machine, is_real_bit_clear as machine_clear, machine_write_place as machine_place, psw_of, retire, seen_psl, machine_space, machine_tables}
-use Rattle.vax_hw.specs.Real.{Retired, retired_by_try, in_kernel, carried_out, machine_step, retired_by_probe}
-use Rattle.vax_hw.specs.RealTables.{both_judged, access_judged, place_in, place_or_end, real_probe}
+use Rattle.vax_hw.specs.Real.{Retired, retired_by_try, in_kernel, carried_out, machine_step, retired_by_probe, real_probe}
+use Rattle.vax_hw.specs.RealTables.{both_judged, access_judged, place_in, place_or_end}
 use Rattle.vax_table.specs.Claims.{claims}
 use Rattle.vax_table.specs.Probing.{last_of, probe_mode}
 use Rattle.vax_table.specs.Effects.{Effect, long_of}
@@ -175,7 +175,7 @@ module _ (opened : List ℕ) (m : Machine) (s : Shadowed) (g : GuestState) (k : 
   nothing_stored = record { keeps = pend opened m.memory s pending k.keeps; own = refl; size = refl; other = λ p h. refl }
 
   -- a PROBE that the machine does
-  probe_is : (i : Intent) (named bytes base : ℕ) (b : Bool) → base < 2 ^ 32 → real_probe m.memory (machine_tables m.world) m.world.psl.0 i named bytes base ≡ Some b → probe here i named bytes base ≡ Answers b true
+  probe_is : (i : Intent) (named bytes base : ℕ) (b : Bool) → base < 2 ^ 32 → real_probe m.memory m.world i named bytes base ≡ Some b → probe here i named bytes base ≡ Answers b true
   unfolding probe
   probe_is i named bytes base b small e =
       let last = last_of base (bytes % 2 ^ 16) in
@@ -187,7 +187,7 @@ module _ (opened : List ℕ) (m : Machine) (s : Shadowed) (g : GuestState) (k : 
       let q = probes opened m.memory s g k.keeps k.serves mode i last y (last_low base (bytes % 2 ^ 16) small) (sym (asked last) ∙ second) in
       (λ j. both (p j) (q j)) ∙ ap (λ z. Answers z true) all
 
-  probe_retired : (opcode : ℕ) (i : Intent) (o : Operands) (x : Retired) (j : Option Bool) → real_probe m.memory (machine_tables m.world) m.world.psl.0 i (long_of o 0) (long_of o 1) (long_of o 2) ≡ j → guest_try here ≡ Completes (meant opcode (Probes i o)) → retired_by_probe m opcode i o j ≡ Ok x → IsRetired opened m s g x
+  probe_retired : (opcode : ℕ) (i : Intent) (o : Operands) (x : Retired) (j : Option Bool) → real_probe m.memory m.world i (long_of o 0) (long_of o 1) (long_of o 2) ≡ j → guest_try here ≡ Completes (meant opcode (Probes i o)) → retired_by_probe m opcode i o j ≡ Ok x → IsRetired opened m s g x
   probe_retired opcode i o x None is own h = cc
   probe_retired opcode i o x (Some b) is own h =
       let e = probed b o (psw_of m.world) in

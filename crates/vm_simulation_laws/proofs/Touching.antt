@@ -9,9 +9,9 @@ use Rattle.vax_arch.specs.Walk.{granted, is_past, page_of}
 use Rattle.vax_arch.specs.declared.mode.Intent.{Intent}
 use Rattle.vax_arch.specs.declared.mode.Mode.{Mode}
 use Rattle.vax_arch.specs.declared.walk.Grant.{Grant}
-use Rattle.vax_hw.specs.Machine.{Machine, is_real_bit_clear as machine_clear, machine_space, machine_tables}
-use Rattle.vax_hw.specs.Real.{Retired, retired_by_try, exit_of, is_write, carried_out, machine_step, retired_by_probe}
-use Rattle.vax_hw.specs.RealTables.{byte_by, everywhere, place_by, place_in, real_probe}
+use Rattle.vax_hw.specs.Machine.{Machine, is_real_bit_clear as machine_clear, machine_space}
+use Rattle.vax_hw.specs.Real.{Retired, retired_by_try, exit_of, is_write, carried_out, machine_step, retired_by_probe, real_probe}
+use Rattle.vax_hw.specs.RealTables.{byte_by, everywhere, place_by, place_in}
 use Rattle.vax_hw.specs.declared.world.Exit.{Exit}
 use Rattle.vax_hw.specs.declared.world.Exit.TheVariants.{Denied, NotValid}
 use Rattle.vax_table.specs.Claims.{claims}
@@ -85,7 +85,7 @@ no_probe_misses m opcode i o None va write e = cc
 no_act_misses : (m : Machine) (opcode : ℕ) (act : Act) (va : ℕ) (write : Bool) → carried_out m opcode act ≡ Err (NotValid va write) → ⊥
 no_act_misses m opcode (Plain f) va write e = cc
 no_act_misses m opcode (Traps t) va write e = cc
-no_act_misses m opcode (Probes i o) va write e = no_probe_misses m opcode i o (real_probe m.memory (machine_tables m.world) m.world.psl.0 i (long_of o 0) (long_of o 1) (long_of o 2)) va write e
+no_act_misses m opcode (Probes i o) va write e = no_probe_misses m opcode i o (real_probe m.memory m.world i (long_of o 0) (long_of o 1) (long_of o 2)) va write e
 
 none_missed : (m : Machine) (a : Meant) (x : Option ℕ) (va : ℕ) (write : Bool) → retired_by_try m (unless_clear a x) ≡ Err (NotValid va write) → ⊥
 none_missed m a None va write e = no_act_misses m a.opcode a.act va write e

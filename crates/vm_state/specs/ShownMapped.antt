@@ -46,22 +46,22 @@ abbrev stack_after : Guest → Seen
 stack_after g = after (step g) (below 4 0x800)
 
 abbrev fault : ℕ → List ℕ → Seen
-fault r1 frame = seen Fault 0 r1 0x800007f0 0x80000a00 0 frame
+fault r1 frame = seen Fault (0 ∷ r1 ∷ 0x800007f0 ∷ 0x80000a00 ∷ []) 0 frame
 
 -- the edges of the tables
 pub lengths :
     -- a store to the first page after P0's last: a length violation for a write; and to the last
     (stack_after (stores 0x800 p0_of_4) ≡ fault 0x800 (5 ∷ 0x800 ∷ 0x200 ∷ 0 ∷ []))
-    × (after (step (stores 0x600 p0_of_4)) [] ≡ seen (Plain 0x80001270) 0 0x600 0x80000800 0x203 4 [])
+    × (after (step (stores 0x600 p0_of_4)) [] ≡ seen (Plain 0x80001270) (0 ∷ 0x600 ∷ 0x80000800 ∷ 0x203 ∷ []) 4 [])
     -- from the first page that P1 has, whose length is its empty part; and from the page in front of it
-    × (after (step (reads_p1 0x7ffff000)) [] ≡ seen (Plain 0xfffffc70) 0 0x7ffff000 0x80000800 0x203 4 [])
+    × (after (step (reads_p1 0x7ffff000)) [] ≡ seen (Plain 0xfffffc70) (0 ∷ 0x7ffff000 ∷ 0x80000800 ∷ 0x203 ∷ []) 4 [])
     × (stack_after (reads_p1 0x7fffee00) ≡ fault 0x7fffee00 (1 ∷ 0x7fffee00 ∷ 0x200 ∷ 0 ∷ []))
     -- from a P0 page whose entry would be on the system page of number SLR
     × (stack_after (reads_by_s 0x80002000) ≡ fault 0x800 (3 ∷ 0x800 ∷ 0x80000200 ∷ 0 ∷ []))
     -- from a P0 page whose entry is on a system page that is not valid
     × (stack_after reads_by_none ≡ fault 0x800 (2 ∷ 0x800 ∷ 0x80000200 ∷ 0 ∷ []))
     -- from a page beyond memory: the guest stops, as it is
-    × (after (step reads_beyond) [] ≡ seen Fault 0 0x800 0x80000800 0x200 0 [])
+    × (after (step reads_beyond) [] ≡ seen Fault (0 ∷ 0x800 ∷ 0x80000800 ∷ 0x200 ∷ []) 0 [])
     × ((step reads_beyond).shown ≡ codes "?10 00000200\r\n")
     -- an address of region 3
     × (after (step (reads 0xc0000000 tables_m)) (below 2 0x7f8) ≡ fault 0xc0000000 (1 ∷ 0xc0000000 ∷ []))
@@ -97,7 +97,7 @@ pushes_over_entry =
 
 -- an access violation at E00 in that handler
 abbrev violation : Seen
-violation = seen Fault 0 0 0x80000088 0x80000a00 0 (0 ∷ 0xe00 ∷ 0x80000a00 ∷ 0 ∷ [])
+violation = seen Fault (0 ∷ 0 ∷ 0x80000088 ∷ 0x80000a00 ∷ []) 0 (0 ∷ 0xe00 ∷ 0x80000a00 ∷ 0 ∷ [])
 
 -- MOVL R0,(R1) twice, with R0 5, to the page at 800, whose modify bit is clear
 abbrev stores_twice : Guest
@@ -115,7 +115,7 @@ stores_with_faults =
     with_memory ((0x43c, 0x80000b00) ∷ []) (record stores_twice { state = record stores_twice.state { modify_faults = true } })
 
 abbrev modify_fault : Seen
-modify_fault = seen Fault 5 0x800 0x800007f0 0x80000b00 0 (4 ∷ 0x800 ∷ 0x200 ∷ 0 ∷ 0xa0000004 ∷ [])
+modify_fault = seen Fault (5 ∷ 0x800 ∷ 0x800007f0 ∷ 0x80000b00 ∷ []) 0 (4 ∷ 0x800 ∷ 0x200 ∷ 0 ∷ 0xa0000004 ∷ [])
 
 -- tables that are written while they are used, and modify bits
 pub own_tables :
@@ -150,7 +150,7 @@ breaks_beyond = let g = guest_m (0x03 ∷ []) [] in step (record g { state = rec
 -- stacks and vectors that are not there
 pub stacks :
     -- vector 08 on the interrupt stack, at IPL 31
-    (after (breaks []) (below 2 0xe00) ≡ seen Fault 0 0 0x80000df8 0x80000a00 0x041f0000 (0x200 ∷ 0 ∷ []))
+    (after (breaks []) (below 2 0xe00) ≡ seen Fault (0 ∷ 0 ∷ 0x80000df8 ∷ 0x80000a00 ∷ []) 0x041f0000 (0x200 ∷ 0 ∷ []))
     -- and where the interrupt stack is not valid either, the guest stops with code 04
     × ((breaks ((0x18, 0x24000006) ∷ [])).guest.state.halt ≡ Some 4)
     × ((breaks ((0x18, 0x24000006) ∷ [])).kind ≡ Fault)

@@ -40,7 +40,7 @@ stacks_and_levels g = slice_index g.state.r 14 ∷ slice_index g.state.stacks 4 
 -- REI
 pub returns :
     -- from user mode to user mode: USP is after the two longwords
-    (after (step (returning 0x03c00000 0x03c00000)) [] ≡ seen Sensitive 0 0 0x608 0x400 0x03c00000 [])
+    (after (step (returning 0x03c00000 0x03c00000)) [] ≡ seen Sensitive (0 ∷ 0 ∷ 0x608 ∷ 0x400 ∷ []) 0x03c00000 [])
     -- to a more privileged mode
     × Refuses 0x03c00000 0x00000000
     -- to a more privileged previous mode
@@ -86,28 +86,28 @@ probew_u r1 = with_register 1 r1 (guest_u (0x0d ∷ 0x03 ∷ 0x01 ∷ 0x61 ∷ [
 
 -- what a walk's fault pushes
 abbrev fault : Seen
-fault = seen Fault 0 0x800 0x800007f0 0x80000a00 0 (6 ∷ 0x800 ∷ 0x80000200 ∷ 0 ∷ [])
+fault = seen Fault (0 ∷ 0x800 ∷ 0x800007f0 ∷ 0x80000a00 ∷ []) 0 (6 ∷ 0x800 ∷ 0x80000200 ∷ 0 ∷ [])
 
 -- PROBER and PROBEW
 pub probes :
     -- a page that is not valid: sensitive, and accessible
-    (after (step (prober 1 0x800 0x20000004)) [] ≡ seen Sensitive 0 0x800 0x80000800 0x204 0 [])
+    (after (step (prober 1 0x800 0x20000004)) [] ≡ seen Sensitive (0 ∷ 0x800 ∷ 0x80000800 ∷ 0x204 ∷ []) 0 [])
     -- a valid one: plain
-    × (after (step (prober 1 0x800 0xa0000004)) [] ≡ seen (Plain 0x80001224) 0 0x800 0x80000800 0x204 0 [])
+    × (after (step (prober 1 0x800 0xa0000004)) [] ≡ seen (Plain 0x80001224) (0 ∷ 0x800 ∷ 0x80000800 ∷ 0x204 ∷ []) 0 [])
     -- one that nobody may use
-    × (after (step (in_user (prober 1 0x800 0x80000004))) [] ≡ seen (Plain 0x00000a24) 0 0x800 0 0x204 0x03c00004 [])
+    × (after (step (in_user (prober 1 0x800 0x80000004))) [] ≡ seen (Plain 0x00000a24) (0 ∷ 0x800 ∷ 0 ∷ 0x204 ∷ []) 0x03c00004 [])
     -- one whose frame is beyond memory: the code decides
-    × (after (step (prober 1 0x800 0xa0000008)) [] ≡ seen Sensitive 0 0x800 0x80000800 0x204 0 [])
+    × (after (step (prober 1 0x800 0xa0000008)) [] ≡ seen Sensitive (0 ∷ 0x800 ∷ 0x80000800 ∷ 0x204 ∷ []) 0 [])
     -- length 0: the base alone
-    × (after (step (prober 0 0x7ff 0x80000004)) [] ≡ seen (Plain 0x80001223) 0 0x7ff 0x80000800 0x204 0 [])
+    × (after (step (prober 0 0x7ff 0x80000004)) [] ≡ seen (Plain 0x80001223) (0 ∷ 0x7ff ∷ 0x80000800 ∷ 0x204 ∷ []) 0 [])
     -- two bytes over a page's end, the second of which nobody may use
-    × (after (step (prober 2 0x7ff 0x80000004)) [] ≡ seen (Plain 0x80001223) 0 0x7ff 0x80000800 0x204 4 [])
+    × (after (step (prober 2 0x7ff 0x80000004)) [] ≡ seen (Plain 0x80001223) (0 ∷ 0x7ff ∷ 0x80000800 ∷ 0x204 ∷ []) 4 [])
     -- an entry on a system page that is not valid: a fault
     × (after (step probew_by_none) (below 4 0x800) ≡ fault)
     -- with mapping off, beyond memory: not accessible, and sensitive
-    × (after (step (prober_u 0x8000)) [] ≡ seen Sensitive 0 0x8000 0x3000 0x204 4 [])
+    × (after (step (prober_u 0x8000)) [] ≡ seen Sensitive (0 ∷ 0x8000 ∷ 0x3000 ∷ 0x204 ∷ []) 4 [])
     -- and the last byte of memory
-    × (after (step (probew_u 0x7fff)) [] ≡ seen (Plain 0x0000b226) 0 0x7fff 0x3000 0x204 0 [])
+    × (after (step (probew_u 0x7fff)) [] ≡ seen (Plain 0x0000b226) (0 ∷ 0x7fff ∷ 0x3000 ∷ 0x204 ∷ []) 0 [])
 unfolding whole_step
 probes = (refl, refl, refl, refl, refl, refl, refl, refl, refl)
 
@@ -130,7 +130,7 @@ loading_other place long = loading ((place, long) ∷ (0x4418, 0x1004) ∷ []) 0
 
 -- a reserved operand, which loads nothing
 abbrev reserved : Seen
-reserved = seen Fault 1 2 0x778 0x1004 0 (0x200 ∷ 0 ∷ [])
+reserved = seen Fault (1 ∷ 2 ∷ 0x778 ∷ 0x1004 ∷ []) 0 (0x200 ∷ 0 ∷ [])
 
 -- the block's PC and PSL, for REI
 abbrev pushed : List ℕ
@@ -160,16 +160,16 @@ saved ksp = ksp ∷ 0x222 ∷ 0x333 ∷ 0x444 ∷ 7 ∷ 9 ∷ 0x1234 ∷ 0x03c00
 -- SVPCTX and LDPCTX
 pub contexts :
     -- SVPCTX: KSP is R14 after the pops, and it goes on on the interrupt stack, at IPL 1
-    (after (step (saving 0)) places ≡ seen Sensitive 7 9 0x700 0x201 0x04010000 (saved 0x788))
+    (after (step (saving 0)) places ≡ seen Sensitive (7 ∷ 9 ∷ 0x700 ∷ 0x201 ∷ []) 0x04010000 (saved 0x788))
     × ((step (saving 0)).guest.state.stacks ≡ 0x788 ∷ 0x222 ∷ 0x333 ∷ 0x444 ∷ 0x700 ∷ [])
     -- on the interrupt stack: KSP is its register, and R14 stays after the pops
-    × (after (step (saving 0x041f0000)) places ≡ seen Sensitive 7 9 0x788 0x201 0x041f0000 (saved 0x111))
+    × (after (step (saving 0x041f0000)) places ≡ seen Sensitive (7 ∷ 9 ∷ 0x788 ∷ 0x201 ∷ []) 0x041f0000 (saved 0x111))
     -- LDPCTX: all of it is loaded, R14 is kept as ISP, and PC and PSL are pushed on the kernel stack
-    × (after (step (loading [] 0x041f0000)) (below 2 0x700) ≡ seen Sensitive 7 9 0x6f8 0x201 0x001f0000 pushed)
+    × (after (step (loading [] 0x041f0000)) (below 2 0x700) ≡ seen Sensitive (7 ∷ 9 ∷ 0x6f8 ∷ 0x201 ∷ []) 0x001f0000 pushed)
     × ((step (loading [] 0x041f0000)).guest.state.stacks ≡ 0x700 ∷ 0x222 ∷ 0 ∷ 0x600 ∷ 0x780 ∷ [])
     × (regions_of (step (loading [] 0x041f0000)).guest ≡ 0x80000000 ∷ 16 ∷ 0x7f800000 ∷ 0x1ffff0 ∷ 3 ∷ [])
     -- and with the interrupt stack not in use, ISP stays
-    × (after (step (loading [] 0)) (below 2 0x700) ≡ seen Sensitive 7 9 0x6f8 0x201 0 pushed)
+    × (after (step (loading [] 0)) (below 2 0x700) ≡ seen Sensitive (7 ∷ 9 ∷ 0x6f8 ∷ 0x201 ∷ []) 0 pushed)
     × ((step (loading [] 0)).guest.state.stacks ≡ 0x700 ∷ 0x222 ∷ 0 ∷ 0x600 ∷ 0 ∷ [])
     -- refused: P0BR that is no system address
     × (after (step (loading_other 0x850 0)) (below 2 0x780) ≡ reserved)
@@ -188,7 +188,7 @@ pub contexts :
     -- refused: bit 22 beside P1LR
     × (after (step (loading_other 0x85c 0x005ffff0)) (below 2 0x780) ≡ reserved)
     -- a push beyond memory stops the guest, which loads nothing
-    × (after (step (loading ((0x800, 0x8008) ∷ []) 0)) [] ≡ seen Fault 1 2 0x780 0x200 0 [])
+    × (after (step (loading ((0x800, 0x8008) ∷ []) 0)) [] ≡ seen Fault (1 ∷ 2 ∷ 0x780 ∷ 0x200 ∷ []) 0 [])
     -- a block that ends beyond memory stops the guest
     × ((step (with_pcbb 0x7fa4 (loading [] 0))).guest.state.halt ≡ Some 0x10)
     × ((step (with_pcbb 0x7fa4 (loading [] 0))).kind ≡ Fault)

@@ -112,15 +112,12 @@ with_psl psl g = record g { state = record g.state { psl = psl } }
 -- what an example shows of a step: its kind, R0, R1, SP and PC, the PSL, and longwords of memory
 pub record Seen : Type 0 where
   pub kind : Kind
-  pub r0 : ℕ
-  pub r1 : ℕ
-  pub sp : ℕ
-  pub pc : ℕ
+  pub registers : List ℕ
   pub psl : ℕ
   pub longs : List ℕ
 
-abbrev pub seen : Kind → (r0 r1 sp pc psl : ℕ) → List ℕ → Seen
-seen kind r0 r1 sp pc psl longs = record { kind = kind; r0 = r0; r1 = r1; sp = sp; pc = pc; psl = psl; longs = longs }
+abbrev pub seen : Kind → (registers : List ℕ) → (psl : ℕ) → List ℕ → Seen
+seen kind registers psl longs = record { kind = kind; registers = registers; psl = psl; longs = longs }
 
 -- the longwords at places
 abbrev pub longs_at : Guest → List ℕ → List ℕ
@@ -130,7 +127,7 @@ abbrev pub after : Stepped → List ℕ → Seen
 after s places =
     let state = s.guest.state in
     let r = slice_index state.r in
-    seen s.kind (r 0) (r 1) (r 14) (r 15) state.psl (longs_at s.guest places)
+    seen s.kind (r 0 ∷ r 1 ∷ r 14 ∷ r 15 ∷ []) state.psl (longs_at s.guest places)
 
 -- the places of n longwords in front of another place
 abbrev pub below : ℕ → ℕ → List ℕ

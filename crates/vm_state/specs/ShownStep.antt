@@ -20,16 +20,16 @@ reads psl entry =
 
 -- an access violation at 800 in user mode
 abbrev violation : Seen
-violation = seen Fault 0 0x800 0x800007f0 0x80000a00 0x00c00000 (0 ∷ 0x800 ∷ 0x200 ∷ 0x03c00000 ∷ [])
+violation = seen Fault (0 ∷ 0x800 ∷ 0x800007f0 ∷ 0x80000a00 ∷ []) 0x00c00000 (0 ∷ 0x800 ∷ 0x200 ∷ 0x03c00000 ∷ [])
 
 -- an instruction and its first trouble
 pub faults :
     -- plain, and its trap of type 2 is taken after it, though IV is clear
-    (after (step divides) (below 3 0x800) ≡ seen (Plain 0x80000c59) 0 7 0x800007f4 0x80000a00 0 (2 ∷ 0x203 ∷ 2 ∷ []))
+    (after (step divides) (below 3 0x800) ≡ seen (Plain 0x80000c59) (0 ∷ 7 ∷ 0x800007f4 ∷ 0x80000a00 ∷ []) 0 (2 ∷ 0x203 ∷ 2 ∷ []))
     -- R0 is as before, and the parameter says that the page was to be written
-    × (after (step stores) (below 4 0x800) ≡ seen Fault 0x300 0x800 0x800007f0 0x80000a00 0 (4 ∷ 0x800 ∷ 0x200 ∷ 0 ∷ []))
+    × (after (step stores) (below 4 0x800) ≡ seen Fault (0x300 ∷ 0x800 ∷ 0x800007f0 ∷ 0x80000a00 ∷ []) 0 (4 ∷ 0x800 ∷ 0x200 ∷ 0 ∷ []))
     -- executive mode may read a page of KW, since kernel mode may
-    × (after (step (reads 0x01400000 0x94000004)) [] ≡ seen (Plain 0x123462e8) 0x12345678 0x800 0 0x203 0x01400000 [])
+    × (after (step (reads 0x01400000 0x94000004)) [] ≡ seen (Plain 0x123462e8) (0x12345678 ∷ 0x800 ∷ 0 ∷ 0x203 ∷ []) 0x01400000 [])
     -- user mode may not, also where the page is not valid: an access violation
     × (after (step (reads 0x03c00000 0x14000004)) (below 4 0x800) ≡ violation)
     × (after (step (reads 0x03c00000 0x94000004)) (below 4 0x800) ≡ violation)

@@ -45,29 +45,29 @@ bpt_to_is = with_isp 0x2000 (by_vector 0x2c 0x1001 bpt)
 
 -- an exception by vector 1004, with PC and PSL on the stack
 abbrev exception : Seen
-exception = seen Fault 0 0 0x2ff8 0x1004 0 (0x200 ∷ 0 ∷ [])
+exception = seen Fault (0 ∷ 0 ∷ 0x2ff8 ∷ 0x1004 ∷ []) 0 (0x200 ∷ 0 ∷ [])
 
 -- exceptions with mapping off
 pub unmapped :
     -- BPT
     (after (step (by_vector 0x2c 0x1004 bpt)) (below 2 0x3000) ≡ exception)
     -- CHMS in kernel mode stays there, by its own vector
-    × (after (step chms) (below 3 0x3000) ≡ seen Sensitive 0 0 0x2ff4 0x1004 0 (5 ∷ 0x202 ∷ 0 ∷ []))
+    × (after (step chms) (below 3 0x3000) ≡ seen Sensitive (0 ∷ 0 ∷ 0x2ff4 ∷ 0x1004 ∷ []) 0 (5 ∷ 0x202 ∷ 0 ∷ []))
     -- CHMK in user mode: USP is kept
-    × (after (step chmk_of_user) (below 3 0x3000) ≡ seen Sensitive 0 0 0x2ff4 0x1000 0x00c00000 (5 ∷ 0x202 ∷ 0x03c00000 ∷ []))
+    × (after (step chmk_of_user) (below 3 0x3000) ≡ seen Sensitive (0 ∷ 0 ∷ 0x2ff4 ∷ 0x1000 ∷ []) 0x00c00000 (5 ∷ 0x202 ∷ 0x03c00000 ∷ []))
     × (slice_index (step chmk_of_user).guest.state.stacks 3 ≡ 0x600)
     -- CHMU in user mode stays on its stack, with its code sign-extended
-    × (after (step chmu) (below 3 0x600) ≡ seen Sensitive 0 0 0x5f4 0x1008 0x03c00000 (0xfffffffb ∷ 0x204 ∷ 0x03c00000 ∷ []))
+    × (after (step chmu) (below 3 0x600) ≡ seen Sensitive (0 ∷ 0 ∷ 0x5f4 ∷ 0x1008 ∷ []) 0x03c00000 (0xfffffffb ∷ 0x204 ∷ 0x03c00000 ∷ []))
     -- a vector whose low bits are 2 stops the guest with code 07, and all else stays
-    × (after (step (by_vector 0x2c 0x1002 bpt)) [] ≡ seen Fault 0 0 0x3000 0x200 0 [])
+    × (after (step (by_vector 0x2c 0x1002 bpt)) [] ≡ seen Fault (0 ∷ 0 ∷ 0x3000 ∷ 0x200 ∷ []) 0 [])
     × ((step (by_vector 0x2c 0x1002 bpt)).shown ≡ codes "?07 00000200\r\n")
     -- a vector whose low bits are 1: the interrupt stack, at IPL 31
-    × (after (step bpt_to_is) (below 2 0x2000) ≡ seen Fault 0 0 0x1ff8 0x1000 0x041f0000 (0x200 ∷ 0 ∷ []))
+    × (after (step bpt_to_is) (below 2 0x2000) ≡ seen Fault (0 ∷ 0 ∷ 0x1ff8 ∷ 0x1000 ∷ []) 0x041f0000 (0x200 ∷ 0 ∷ []))
     -- which CHM does not have: it stops the guest with code 07, and is of kind sensitive
     × ((step (by_vector 0x40 0x1001 chmk)).guest.state.halt ≡ Some 7)
     × ((step (by_vector 0x40 0x1001 chmk)).kind ≡ Sensitive)
     -- CHM on the interrupt stack stops the guest with code 0A, and its operand changed nothing
-    × (after (step chmk_on_is) [] ≡ seen Sensitive 0x600 0 0x2000 0x200 0x041f0000 [])
+    × (after (step chmk_on_is) [] ≡ seen Sensitive (0x600 ∷ 0 ∷ 0x2000 ∷ 0x200 ∷ []) 0x041f0000 [])
     -- an opcode that there is not
     × (after (step (by_vector 0x10 0x1004 (0xff ∷ []))) (below 2 0x3000) ≡ exception)
     -- XFC
@@ -77,7 +77,7 @@ pub unmapped :
     -- BISPSW of a bit above 7
     × (after (step (by_vector 0x18 0x1004 (0xb8 ∷ 0x8f ∷ 0x00 ∷ 0x01 ∷ []))) (below 2 0x3000) ≡ exception)
     -- a privileged instruction
-    × (after (step mtpr_of_user) (below 2 0x3000) ≡ seen Fault 0 0 0x2ff8 0x1004 0x00c00000 (0x200 ∷ 0x03c00000 ∷ []))
+    × (after (step mtpr_of_user) (below 2 0x3000) ≡ seen Fault (0 ∷ 0 ∷ 0x2ff8 ∷ 0x1004 ∷ []) 0x00c00000 (0x200 ∷ 0x03c00000 ∷ []))
 unfolding whole_step
 unmapped = (refl, refl, refl, refl, refl, refl, refl, refl, refl, refl, refl, refl, refl, refl, refl, refl)
 
@@ -105,10 +105,10 @@ halts = guest_u (0x00 ∷ [])
 -- interrupts and processor registers
 pub registers_and_interrupts :
     -- the clock's interrupt pushes the PC after WAIT
-    (after (step (after_steps 9 waits)) (below 2 0x3000) ≡ seen Interrupt 0 0 0x2ff8 0x1000 0x00180000 (0x202 ∷ 0 ∷ []))
+    (after (step (after_steps 9 waits)) (below 2 0x3000) ≡ seen Interrupt (0 ∷ 0 ∷ 0x2ff8 ∷ 0x1000 ∷ []) 0x00180000 (0x202 ∷ 0 ∷ []))
     × (kinds 10 waits ≡ Sensitive ∷ Idle ∷ Idle ∷ Idle ∷ Idle ∷ Idle ∷ Idle ∷ Idle ∷ Idle ∷ Interrupt ∷ [])
     -- the request, and then its interrupt
-    × (after (step (after_steps 1 requests)) (below 2 0x3000) ≡ seen Interrupt 0 0 0x2ff8 0x1004 0x00030000 (0x203 ∷ 0 ∷ []))
+    × (after (step (after_steps 1 requests)) (below 2 0x3000) ≡ seen Interrupt (0 ∷ 0 ∷ 0x2ff8 ∷ 0x1004 ∷ []) 0x00030000 (0x203 ∷ 0 ∷ []))
     × ((after_steps 2 requests).state.sisr ≡ 0)
     × ((after_steps 1 requests).state.sisr ≡ 8)
     -- its bytes, and the steps so far
@@ -117,7 +117,7 @@ pub registers_and_interrupts :
     -- MTPR of 2 to MAPEN: a reserved operand
     × (after (step (by_vector 0x18 0x1004 (0xda ∷ 0x02 ∷ 0x38 ∷ []))) (below 2 0x3000) ≡ exception)
     -- HALT stops after itself
-    × (after (step halts) [] ≡ seen Sensitive 0 0 0x3000 0x201 0 [])
+    × (after (step halts) [] ≡ seen Sensitive (0 ∷ 0 ∷ 0x3000 ∷ 0x201 ∷ []) 0 [])
     -- and a stopped guest stays as it is
     × (kinds 2 halts ≡ Sensitive ∷ Stopped ∷ [])
     × ((after_steps 2 halts).state.steps ≡ 1)

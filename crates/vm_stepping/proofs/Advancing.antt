@@ -9,14 +9,14 @@ use Rattle.vm_simulation_laws.specs.Bursts.{after_counted}
 use Rattle.vm_state.specs.Run.{Run, after_steps}
 use Rattle.vm_state.specs.declared.guest_state.GuestState.{GuestState}
 use Rattle.vm_stepping.specs.Advances.{Advances, Proceeds, after_left_steps}
-use Rattle.vm_stepping.specs.Made.{no_counts, run_of}
+use Rattle.vm_stepping.specs.Made.{no_counts, run_of, underway}
 use Rattle.vm_stepping.specs.declared.counts.Counts.{Counts}
 use Rattle.vm_stepping.specs.declared.turns.Left.{Left}
 use Rattle.vm_stepping.proofs.Going.{goes_then, retired_then}
 use Rattle.vm_stepping.proofs.Running.{not_counted, plain_left}
 
-pub nothing_yet : {Port : Type 0} (may : Port → List ℕ → Type 0) (n : ℕ) (left : Left) (port : Port) (m : Machine) (s : Shadowed) (g : GuestState) (c : Counts) → StandsFor m.memory s g → left ≡ plain_left n → Proceeds may (plain_left n) left port port m s g c m s g c
-nothing_yet may n left port m s g c stands e = subst (λ x. Proceeds may (plain_left n) x port port m s g c m s g c) (sym e) (record {
+pub nothing_yet : {Port : Type 0} (may : Port → List ℕ → Type 0) (n : ℕ) (left : Left) (port : Port) (m : Machine) (s : Shadowed) (g : GuestState) (c : Counts) → StandsFor m.memory s g → left ≡ plain_left n → Proceeds may (plain_left n) left (underway port m s g c) (underway port m s g c)
+nothing_yet may n left port m s g c stands e = subst (λ x. Proceeds may (plain_left n) x (underway port m s g c) (underway port m s g c)) (sym e) (record {
   text = [];
   run = λ shown. ap (λ x. after_steps n (run_of m.memory g c x)) (sym (append-nil shown));
   shows = Appends-nil may port;
@@ -28,7 +28,7 @@ nothing_yet may n left port m s g c stands e = subst (λ x. Proceeds may (plain_
 })
 
 pub then_more : {Port : Type 0} (may : Port → List ℕ → Type 0) (l l1 l2 : Left) (p p1 p2 : Port) (m : Machine) (s : Shadowed) (g : GuestState) (c : Counts) (m1 : Machine) (s1 : Shadowed) (g1 : GuestState) (c1 : Counts) (m2 : Machine) (s2 : Shadowed) (g2 : GuestState) (c2 : Counts) →
-    StandsFor m.memory s g → Proceeds may l l1 p p1 m s g c m1 s1 g1 c1 → Proceeds may l1 l2 p1 p2 m1 s1 g1 c1 m2 s2 g2 c2 → Proceeds may l l2 p p2 m s g c m2 s2 g2 c2
+    StandsFor m.memory s g → Proceeds may l l1 (underway p m s g c) (underway p1 m1 s1 g1 c1) → Proceeds may l1 l2 (underway p1 m1 s1 g1 c1) (underway p2 m2 s2 g2 c2) → Proceeds may l l2 (underway p m s g c) (underway p2 m2 s2 g2 c2)
 then_more may l l1 l2 p p1 p2 m s g c m1 s1 g1 c1 m2 s2 g2 c2 stands x y =
     let one = x.kinds in
     let two = y.kinds in
@@ -50,7 +50,7 @@ none_after : (n : ℕ) (b : Bool) (run : Run) → n ≡ 0 → (if b then after_c
 none_after n true run e = ap (λ x. after_counted x run) e
 none_after n false run e = ap (λ x. after_steps x run) e
 
-pub all_done : {Port : Type 0} (may : Port → List ℕ → Type 0) (n : ℕ) (left : Left) (p p1 : Port) (m : Machine) (s : Shadowed) (g : GuestState) (m1 : Machine) (s1 : Shadowed) (g1 : GuestState) (c1 : Counts) → left.steps ≡ 0 → Proceeds may (plain_left n) left p p1 m s g no_counts m1 s1 g1 c1 → Advances may n p p1 m s g m1 s1 g1 c1
+pub all_done : {Port : Type 0} (may : Port → List ℕ → Type 0) (n : ℕ) (left : Left) (p p1 : Port) (m : Machine) (s : Shadowed) (g : GuestState) (m1 : Machine) (s1 : Shadowed) (g1 : GuestState) (c1 : Counts) → left.steps ≡ 0 → Proceeds may (plain_left n) left (underway p m s g no_counts) (underway p1 m1 s1 g1 c1) → Advances may n p p1 m s g m1 s1 g1 c1
 all_done may n left p p1 m s g m1 s1 g1 c1 e x =
     let kinds = x.kinds in
     record {

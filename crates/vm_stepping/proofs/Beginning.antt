@@ -11,21 +11,21 @@ use Rattle.vm_shadow.specs.Shadowed.{Shadowed}
 use Rattle.vm_shadow.specs.StandsFor.{StandsFor}
 use Rattle.vm_simulation_laws.specs.Bursts.{IsQuiet, after_counted}
 use Rattle.vm_state.specs.Allowed.{AreAllowed}
-use Rattle.vm_state.specs.Initiate.{initiate}
-use Rattle.vm_state.specs.Interrupts.{IntervalClock, Kcall, Receiver, Software, Source, Transmitter, due, interrupt_of, source_row, sources}
+use Rattle.vm_state.specs.Interrupts.{IntervalClock, Kcall, Receiver, Software, Source, Transmitter, due, source_row, sources}
 use Rattle.vm_state.specs.Partition.{guest_of, part, partition_of}
 use Rattle.vm_state.specs.Run.{Run, after_step, after_steps}
 use Rattle.vm_state.specs.State.{Guest, HasPlace, State, state_of}
 use Rattle.vm_state.specs.Step as steps
-use Rattle.vm_state.specs.Step.{Stepped, counted, interrupted, step, stepped}
+use Rattle.vm_state.specs.Step.{Stepped, counted, step, stepped}
 use Rattle.vm_state.specs.declared.guest_state.GuestState.{GuestState}
 use Rattle.vm_state.proofs.StepCases.{by_interrupt, step_by, unless_waiting}
 use Rattle.vm_stepping.specs.Advances.{Proceeds, to_do}
-use Rattle.vm_stepping.specs.Made.{CountsRetired, KeepsRefinement, Made, run_of, tally_of}
+use Rattle.vm_stepping.specs.Made.{CountsRetired, KeepsRefinement, Made, run_of, tally_of, underway}
 use Rattle.vm_stepping.specs.declared.counts.Counts.{Counts}
 use Rattle.vm_stepping.specs.declared.turns.Left.{Left}
 use Rattle.vm_stepping.proofs.Going.{few_unfilled, goes_then}
 use Rattle.vm_stepping.proofs.Running.{counted_left, not_counted, plain_left}
+use Rattle.vm_exception.specs.Made.{interrupted_by}
 
 -- Ticks before the clock's next wrap request nothing.
 requests_later : (s : State) (n : ℕ) (source : Source) → (source_row source).requests (record s { clock = record s.clock { icr = n } }) ≡ (source_row source).requests s
@@ -72,8 +72,8 @@ nothing_goes m s g stands = record { stands = stands; only = record { size = ref
 nothing_retired : (m : Machine) (c c' : Counts) → c'.plain ≡ c.plain → c'.trail ≡ c.trail → CountsRetired m c m c'
 nothing_retired m c c' p t = record { retired = (λ i. (m.retired + sym p i) % 2 ^ 64); trail = (λ i. (m.trail + sym t i) % 2 ^ 64) }
 
-pub stands_on : {Port : Type 0} (may : Port → List ℕ → Type 0) (port : Port) (m : Machine) (s : Shadowed) (g : GuestState) (c : Counts) (n code : ℕ) (left : Left) → StandsFor m.memory s g → g.halt ≡ Some code → left ≡ plain_left 0 → Proceeds may (plain_left n) left port port m s g c m s g (record c { stopped = c.stopped + n })
-stands_on may port m s g c n code left stands halted e = subst (λ x. Proceeds may (plain_left n) x port port m s g c m s g (record c { stopped = c.stopped + n })) (sym e) (record {
+pub stands_on : {Port : Type 0} (may : Port → List ℕ → Type 0) (port : Port) (m : Machine) (s : Shadowed) (g : GuestState) (c : Counts) (n code : ℕ) (left : Left) → StandsFor m.memory s g → g.halt ≡ Some code → left ≡ plain_left 0 → Proceeds may (plain_left n) left (underway port m s g c) (underway port m s g (record c { stopped = c.stopped + n }))
+stands_on may port m s g c n code left stands halted e = subst (λ x. Proceeds may (plain_left n) x (underway port m s g c) (underway port m s g (record c { stopped = c.stopped + n }))) (sym e) (record {
   text = [];
   run = λ shown. rests n (run_of m.memory g c shown) (stands_still (guest_of m.memory g) code halted) ∙ ap (λ x. run_of m.memory g (record c { stopped = c.stopped + n }) x) (sym (append-nil shown));
   shows = Appends-nil may port;
@@ -84,10 +84,10 @@ stands_on may port m s g c n code left stands halted e = subst (λ x. Proceeds m
   begun = λ same. absurd (not_counted same);
 })
 
-pub halted_on : {Port : Type 0} (may : Port → List ℕ → Type 0) (port : Port) (m : Machine) (s : Shadowed) (g : GuestState) (c : Counts) (n k : ℕ) (left : Left) → StandsFor m.memory s g → is_some g.halt ≡ true → k ≡ n → left ≡ plain_left 0 → Proceeds may (plain_left n) left port port m s g c m s g (record c { stopped = c.stopped + k })
-halted_on may port m s g c n k left stands halted same e = subst (λ x. Proceeds may (plain_left n) left port port m s g c m s g (record c { stopped = c.stopped + x })) (sym same) (by_halt g.halt refl halted)
+pub halted_on : {Port : Type 0} (may : Port → List ℕ → Type 0) (port : Port) (m : Machine) (s : Shadowed) (g : GuestState) (c : Counts) (n k : ℕ) (left : Left) → StandsFor m.memory s g → is_some g.halt ≡ true → k ≡ n → left ≡ plain_left 0 → Proceeds may (plain_left n) left (underway port m s g c) (underway port m s g (record c { stopped = c.stopped + k }))
+halted_on may port m s g c n k left stands halted same e = subst (λ x. Proceeds may (plain_left n) left (underway port m s g c) (underway port m s g (record c { stopped = c.stopped + x }))) (sym same) (by_halt g.halt refl halted)
   where
-    by_halt : (o : Option ℕ) → g.halt ≡ o → is_some o ≡ true → Proceeds may (plain_left n) left port port m s g c m s g (record c { stopped = c.stopped + n })
+    by_halt : (o : Option ℕ) → g.halt ≡ o → is_some o ≡ true → Proceeds may (plain_left n) left (underway port m s g c) (underway port m s g (record c { stopped = c.stopped + n }))
     by_halt None is some = absurd (not_counted some)
     by_halt (Some code) is some = stands_on may port m s g c n code left stands is e
 
@@ -127,12 +127,12 @@ module _ (m : Machine) (s : Shadowed) (g : GuestState) (g1 : GuestState) (stands
   -- an interrupt is taken
   module _ {Port : Type 0} (may : Port → List ℕ → Type 0) (port port' : Port) (c : Counts) (n : ℕ) (some : 1 ≤ n) (left : Left) where
     module _ (source : Source) (pending : due (state_of g1) ≡ Some source) (m2 : Machine) (s2 : Shadowed) (g2 : GuestState) (c2 : Counts) where
-      pub interrupt_on : Made may (interrupted (guest_of m.memory g1) source (initiate (guest_of m.memory g1) (interrupt_of source))) port port' m s g1 c m2 s2 g2 c2 → left ≡ plain_left (n - 1) → Proceeds may (plain_left n) left port port' m s g c m2 s2 g2 c2
+      pub interrupt_on : Made may (interrupted_by (guest_of m.memory g1) source) (underway port m s g1 c) (underway port' m2 s2 g2 c2) → left ≡ plain_left (n - 1) → Proceeds may (plain_left n) left (underway port m s g c) (underway port' m2 s2 g2 c2)
       interrupt_on made e =
-          let x = interrupted (guest_of m.memory g1) source (initiate (guest_of m.memory g1) (interrupt_of source)) in
-          let is : step (guest_of m.memory g) ≡ x = step_is (Some source) pending ∙ ap (λ h. interrupted h source (initiate h (interrupt_of source))) (sym counted_is) in
+          let x = interrupted_by (guest_of m.memory g1) source in
+          let is : step (guest_of m.memory g) ≡ x = step_is (Some source) pending ∙ ap (λ h. interrupted_by h source) (sym counted_is) in
           let one = made.one in
-          subst (λ y. Proceeds may (plain_left n) y port port' m s g c m2 s2 g2 c2) (sym e) (record {
+          subst (λ y. Proceeds may (plain_left n) y (underway port m s g c) (underway port' m2 s2 g2 c2)) (sym e) (record {
             text = x.shown;
             run = λ shown. one_step n c shown x some is ∙ ap (after_steps (n - 1)) (made.run shown);
             shows = made.shows;
@@ -148,12 +148,12 @@ module _ (m : Machine) (s : Shadowed) (g : GuestState) (g1 : GuestState) (stands
 
     -- nothing is due
     module _ (none : due (state_of g1) ≡ None) where
-      pub waits_on : g1.waiting ≡ true → left ≡ plain_left (n - 1) → Proceeds may (plain_left n) left port port m s g c m s g1 (record c { idle = c.idle + 1 })
+      pub waits_on : g1.waiting ≡ true → left ≡ plain_left (n - 1) → Proceeds may (plain_left n) left (underway port m s g c) (underway port m s g1 (record c { idle = c.idle + 1 }))
       waits_on waiting e =
           let x = stepped now [] steps.Idle [] in
           let is : step (guest_of m.memory g) ≡ x = step_is None none ∙ ap (unless_waiting now) (sym (ap (λ (y : State). y.waiting) state) ∙ waiting) in
           let c2 : Counts = record c { idle = c.idle + 1 } in
-          subst (λ y. Proceeds may (plain_left n) y port port m s g c m s g1 c2) (sym e) (record {
+          subst (λ y. Proceeds may (plain_left n) y (underway port m s g c) (underway port m s g1 c2)) (sym e) (record {
             text = [];
             run = λ shown. one_step n c shown x some is ∙ ap (after_steps (n - 1)) (λ i. record { guest = sym counted_is i; shown = shown ++ []; tally = tally_of c2 });
             shows = Appends-nil may port;
@@ -168,7 +168,7 @@ module _ (m : Machine) (s : Shadowed) (g : GuestState) (g1 : GuestState) (stands
       comes_to h zero run e some = absurd (omega (arith, some))
       comes_to h (suc k) run e some = let is : suc k - 1 ≡ k = omega arith in ap (λ y. after_steps y (after_step run (steps.executed h))) is
 
-      pub begins_on : g1.waiting ≡ false → Proceeds may (plain_left n) (counted_left n) port port m s g c m s g1 c
+      pub begins_on : g1.waiting ≡ false → Proceeds may (plain_left n) (counted_left n) (underway port m s g c) (underway port m s g1 c)
       begins_on waiting =
           let x = steps.executed now in
           let is : step (guest_of m.memory g) ≡ x = step_is None none ∙ ap (unless_waiting now) (sym (ap (λ (y : State). y.waiting) state) ∙ waiting) in

@@ -7,6 +7,7 @@ use Rattle.vax_hw.specs.Machine.{Machine}
 use Rattle.vax_hw.specs.Real.{Retired, unless_trapped, going_on, misses_after, machine_step, real}
 use Rattle.vax_hw.specs.declared.world.Exit.{Exit}
 use Rattle.vax_hw.specs.declared.world.Exit.TheVariants.{Arithmetic, Budget, Denied, Emulate, Modify, NotValid, Refused}
+use Rattle.vm_exception.specs.Standing.{standing}
 use Rattle.vm_stepping.specs.Guarded.{ExitIsMet, GrantsOrOpens, IsCompleted, IsTried, IsUnfinished, OnlyBoth, opened_by}
 use Rattle.vax_table.specs.Interaction.{IsIn}
 use Rattle.vm_simulation_laws.specs.Runs.{Reaches}
@@ -63,7 +64,7 @@ module _ (opened : List ℕ) (m : Machine) (s : Shadowed) (g : GuestState) (k : 
 
   -- of an exit but Modify
   abbrev First : Machine × Exit → Type 0
-  First z = ((va : ℕ) → z.1 ≡ Modify va → ⊥) → IsTried z.1 opened m s g z.0 s
+  First z = ((va : ℕ) → z.1 ≡ Modify va → ⊥) → IsTried z.1 opened (standing m s g) z.0 s
 
   by_exit : (e : Exit) → machine_step m ≡ Err e → Meets e m.memory s g → First (record m { misses = misses_after m.misses e }, e)
   by_exit Budget is t other = absurd t
@@ -82,7 +83,7 @@ module _ (opened : List ℕ) (m : Machine) (s : Shadowed) (g : GuestState) (k : 
   first_by (Ok x) e = by_trap x x.trap (completes x (retires opened m s g x k e) e)
   first_by (Err e) is = by_exit e is (exits_meet opened m s g e k is)
 
-  pub first_try : (m1 : Machine) (e : Exit) → (m1, e) ≡ real 1 m → ((va : ℕ) → e ≡ Modify va → ⊥) → IsTried e opened m s g m1 s
+  pub first_try : (m1 : Machine) (e : Exit) → (m1, e) ≡ real 1 m → ((va : ℕ) → e ≡ Modify va → ⊥) → IsTried e opened (standing m s g) m1 s
   first_try m1 e is other = subst First (sym is) (first_by (machine_step m) refl) other
 
   -- of Modify
@@ -251,7 +252,7 @@ module _ (m : Machine) (s : Shadowed) (g : GuestState) (m2 : Machine) (s2 : Shad
     reaches = k.reaches;
   }
 
-  pub tried_from : (opened : List ℕ) (e : Exit) → IsTried e opened m2 s2 g m3 s3 → IsTried e opened m s g m3 s3
+  pub tried_from : (opened : List ℕ) (e : Exit) → IsTried e opened (standing m2 s2 g) m3 s3 → IsTried e opened (standing m s g) m3 s3
   tried_from opened Budget k = completed_from opened None k
   tried_from opened (Arithmetic kind) k = completed_from opened (Some kind) k
   tried_from opened (NotValid va write) k = unfinished_from opened (NotValid va write) k

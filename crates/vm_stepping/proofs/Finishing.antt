@@ -5,6 +5,7 @@ use Rattle.vax_hw.specs.Real.{misses_after}
 use Rattle.vax_hw.specs.declared.world.Exit.{Exit}
 use Rattle.vax_hw.specs.declared.world.Exit.TheVariants.{Arithmetic, Budget, Denied, Emulate, Modify, NotValid, Refused}
 use Rattle.vax_hw.specs.declared.world.World.{World}
+use Rattle.vm_exception.specs.Standing.{standing}
 use Rattle.vm_stepping.specs.Guarded.{CanAllow, IsCompleted, IsGuarded, IsTried, IsUnfinished, RunsSome, StaysGuarded, StepsGuarded, with_trap_of}
 use Rattle.vm_stepping.specs.Ran.{rise}
 use Rattle.vm_stepping.proofs.Bursting.{loaded, loads_world, rise_is, zero_bits}
@@ -60,7 +61,7 @@ twice : (n : ℕ) → n % 2 ^ 64 % 2 ^ 64 ≡ n % 2 ^ 64
 twice n = omega arith
 
 module _ (m : Machine) (s : Shadowed) (g : GuestState) (x : Exit) (risen : ℕ) (w : World) (m2 : Machine) (s2 : Shadowed) (g2 : GuestState) (k : StandsFor m.memory s g) (is : w ≡ world_of s g)
-    (tried : (opened : List ℕ) → RunsGuest opened (record m { world = w }) s g → IsTried x opened (record m { world = w }) s g m2 s2)
+    (tried : (opened : List ℕ) → RunsGuest opened (record m { world = w }) s g → IsTried x opened (standing (record m { world = w }) s g) m2 s2)
     (rises : risen ≡ rise m.trail m2.trail) (small : m.trail < 2 ^ 64) (back_is : g2 ≡ as_run m2.world g) where
   abbrev first : Machine
   first = record m { world = world_of s g }
@@ -108,10 +109,10 @@ module _ (m : Machine) (s : Shadowed) (g : GuestState) (x : Exit) (risen : ℕ) 
         reaches = u.reaches;
       }
 
-  tried_is : IsTried x [] first s g m2 s2
-  tried_is = subst (λ v. IsTried x [] (record m { world = v }) s g m2 s2) is (tried [] (subst (λ v. RunsGuest [] (record m { world = v }) s g) (sym is) (loaded m s g k)))
+  tried_is : IsTried x [] (standing first s g) m2 s2
+  tried_is = subst (λ v. IsTried x [] (standing (record m { world = v }) s g) m2 s2) is (tried [] (subst (λ v. RunsGuest [] (record m { world = v }) s g) (sym is) (loaded m s g k)))
 
-  by_exit : (e : Exit) → IsTried e [] first s g m2 s2 → IsGuarded e m s g risen m2 s2 g2
+  by_exit : (e : Exit) → IsTried e [] (standing first s g) m2 s2 → IsGuarded e risen (standing m s g) (standing m2 s2 g2)
   by_exit Budget t = steps_on None t
   by_exit (Arithmetic kind) t = steps_on (Some kind) t
   by_exit (NotValid va write) t = stays_on (NotValid va write) t
@@ -120,7 +121,7 @@ module _ (m : Machine) (s : Shadowed) (g : GuestState) (x : Exit) (risen : ℕ) 
   by_exit (Emulate trap) t = stays_on (Emulate trap) t
   by_exit (Refused refusal) t = stays_on (Refused refusal) t
 
-  pub is_guarded : IsGuarded x m s g risen m2 s2 g2
+  pub is_guarded : IsGuarded x risen (standing m s g) (standing m2 s2 g2)
   is_guarded = by_exit x tried_is
 
 -- the machine runs the guest, once that is loaded

@@ -48,16 +48,16 @@ pub closes_plain : (n frame : ℕ) (m m2 : Machine) (s : Shadowed) → ClosesPag
 closes_plain n frame m m2 s c = record { keeps = c.keeps; drops = refl; only = c.only }
 
 module _ (va : ℕ) (frame : Option ℕ) (f : ℕ) (retired : Bool) (m : Machine) (s : Shadowed) (is : frame ≡ Some f) where
-  closes_as : (r : Bool) (m' : Machine) (s' : Shadowed) → retired ≡ r → ClosesOne (own_number s (page_of va)) f r m s m' s' → ClosesAfter (own_number s (page_of va)) frame retired m s m' s'
-  closes_as r m' s' e k = subst (λ (x : Option ℕ). ClosesAfter (own_number s (page_of va)) x retired m s m' s') (sym is) (subst (λ x. ClosesOne (own_number s (page_of va)) f x m s m' s') (sym e) k)
+  closes_as : (r : Bool) (m' : Machine) (s' : Shadowed) → retired ≡ r → ClosesOne (own_number s (page_of va)) f r m s m' s' → ClosesAfter (own_number s (page_of va)) frame retired (m, s) (m', s')
+  closes_as r m' s' e k = subst (λ (x : Option ℕ). ClosesAfter (own_number s (page_of va)) x retired (m, s) (m', s')) (sym is) (subst (λ x. ClosesOne (own_number s (page_of va)) f x m s m' s') (sym e) k)
 
-  pub unretired : (m' : Machine) → retired ≡ false → ClosesPage (own_number s (page_of va)) m s m' → ClosesAfter (own_number s (page_of va)) frame retired m s m' s
+  pub unretired : (m' : Machine) → retired ≡ false → ClosesPage (own_number s (page_of va)) m s m' → ClosesAfter (own_number s (page_of va)) frame retired (m, s) (m', s)
   unretired m' e c = closes_as false m' s e (closes_plain (own_number s (page_of va)) f m m' s c)
 
   pub noted_fits : (m1 : Machine) (s1 : Shadowed) → retired ≡ true → CanClose frame retired m s → Notes f m s m1 s1 → Fits m1.memory s1
   noted_fits m1 s1 e can k = fits_noted f m m1 s s1 (subst (λ (x : Option ℕ). CanClose x true m s) is (subst (λ x. CanClose frame x m s) e can)) k
 
-  pub retired_too : (m1 m' : Machine) (s1 : Shadowed) → retired ≡ true → Notes f m s m1 s1 → ClosesPage (own_number s1 (page_of va)) m1 s1 m' → ClosesAfter (own_number s (page_of va)) frame retired m s m' s1
+  pub retired_too : (m1 m' : Machine) (s1 : Shadowed) → retired ≡ true → Notes f m s m1 s1 → ClosesPage (own_number s1 (page_of va)) m1 s1 m' → ClosesAfter (own_number s (page_of va)) frame retired (m, s) (m', s1)
   retired_too m1 m' s1 e k c =
       let slot : s1.slot ≡ s.slot = ap (λ (x : Shadowed). x.slot) k.drops.rest in
       let at : s1.at ≡ s.at = ap (λ (x : Shadowed). x.at) k.drops.rest in

@@ -21,6 +21,7 @@ use Rattle.vm_stepping.proofs.Advancing.{nothing_yet, then_more}
 use Rattle.vm_stepping.proofs.Beginning.{counted_stands, due_then, waits_on}
 use Rattle.vm_stepping.proofs.PayingBegun.{pays_nothing, pays_then, pays_waiting}
 use Rattle.vm_stepping.proofs.Running.{plain_left}
+use Rattle.vm_stepping.specs.Made.{underway}
 
 -- what is due depends on no count of steps
 requests_uncounted : (s : State) (n : ℕ) (source : Source) → (source_row source).requests (record s { steps = n }) ≡ (source_row source).requests s
@@ -62,21 +63,21 @@ module _ (m : Machine) (s : Shadowed) (g : GuestState) (stands : StandsFor m.mem
     abbrev idle_by : ℕ → Counts
     idle_by k = record c { idle = c.idle + k }
 
-    idle_on : (k : ℕ) → k ≤ n → (IsTrue g.clock.run → k < ticks_to_wrap g.clock) → Proceeds may (plain_left n) (fewer n k) port port m s g c m s (with_count k g) (idle_by k)
+    idle_on : (k : ℕ) → k ≤ n → (IsTrue g.clock.run → k < ticks_to_wrap g.clock) → Proceeds may (plain_left n) (fewer n k) (underway port m s g c) (underway port m s (with_count k g) (idle_by k))
     idle_on zero few within =
         let same : idle_by 0 ≡ c = (let e : c.idle + 0 ≡ c.idle = omega arith in λ i. record c { idle = e i }) in
-        subst (λ (x : GuestState). Proceeds may (plain_left n) (fewer n 0) port port m s g c m s x (idle_by 0)) (sym (no_more g small))
-        (subst (λ (x : Counts). Proceeds may (plain_left n) (fewer n 0) port port m s g c m s g x) (sym same) (nothing_yet may n (fewer n 0) port m s g c stands (let e : n - 0 ≡ n = omega arith in ap plain_left e)))
+        subst (λ (x : GuestState). Proceeds may (plain_left n) (fewer n 0) (underway port m s g c) (underway port m s x (idle_by 0))) (sym (no_more g small))
+        (subst (λ (x : Counts). Proceeds may (plain_left n) (fewer n 0) (underway port m s g c) (underway port m s g x)) (sym same) (nothing_yet may n (fewer n 0) port m s g c stands (let e : n - 0 ≡ n = omega arith in ap plain_left e)))
     idle_on (suc k) few within =
         let here : GuestState = with_count k g in
         let next : GuestState = with_count (k + 1) g in
-        let before : Proceeds may (plain_left n) (fewer n k) port port m s g c m s here (idle_by k) = idle_on k (omega (arith, few)) (λ r. let w = within r in omega (arith, w)) in
-        let one : Proceeds may (plain_left (n - k)) (fewer n (k + 1)) port port m s here (idle_by k) m s next (record (idle_by k) { idle = c.idle + k + 1 }) =
+        let before : Proceeds may (plain_left n) (fewer n k) (underway port m s g c) (underway port m s here (idle_by k)) = idle_on k (omega (arith, few)) (λ r. let w = within r in omega (arith, w)) in
+        let one : Proceeds may (plain_left (n - k)) (fewer n (k + 1)) (underway port m s here (idle_by k)) (underway port m s next (record (idle_by k) { idle = c.idle + k + 1 })) =
         waits_on m s here next before.goes.stands (one_more k g) (record { pages = refl; base = refl; start = refl }) runs may port port (idle_by k) (n - k) (omega (arith, few)) (fewer n (k + 1)) (none_due g (k + 1) none (λ r. let w = within r in omega (arith, w))) waits (next_fewer n k) in
-        let both : Proceeds may (plain_left n) (fewer n (k + 1)) port port m s g c m s next (record (idle_by k) { idle = c.idle + k + 1 }) = then_more may (plain_left n) (fewer n k) (fewer n (k + 1)) port port port m s g c m s here (idle_by k) m s next (record (idle_by k) { idle = c.idle + k + 1 }) stands before one in
+        let both : Proceeds may (plain_left n) (fewer n (k + 1)) (underway port m s g c) (underway port m s next (record (idle_by k) { idle = c.idle + k + 1 })) = then_more may (plain_left n) (fewer n k) (fewer n (k + 1)) port port port m s g c m s here (idle_by k) m s next (record (idle_by k) { idle = c.idle + k + 1 }) stands before one in
         let is : k + 1 ≡ suc k = omega arith in
         let sum : c.idle + k + 1 ≡ c.idle + suc k = omega arith in
-        subst (λ j. Proceeds may (plain_left n) (fewer n j) port port m s g c m s (with_count j g) (idle_by (suc k))) is (subst (λ x. Proceeds may (plain_left n) (fewer n (k + 1)) port port m s g c m s next (record c { idle = x })) sum both)
+        subst (λ j. Proceeds may (plain_left n) (fewer n j) (underway port m s g c) (underway port m s (with_count j g) (idle_by (suc k)))) is (subst (λ x. Proceeds may (plain_left n) (fewer n (k + 1)) (underway port m s g c) (underway port m s next (record c { idle = x }))) sum both)
 
   -- its tables stand for it all along
   stands_later : (k : ℕ) → StandsFor m.memory s (with_count k g)
@@ -111,17 +112,17 @@ module _ (m : Machine) (s : Shadowed) (g g1 g2 : GuestState) (stands : StandsFor
   left_now : left ≡ plain_left (n - 1 - x.more)
   left_now = let most = x.most in let e : n - (x.more + 1) ≡ n - 1 - x.more = omega (arith, most, some) in x.left_is ∙ ap plain_left e
 
-  pub idles_on : {Port : Type 0} (may : Port → List ℕ → Type 0) (port : Port) → Proceeds may (plain_left n) left port port m s g c m s g2 c2
+  pub idles_on : {Port : Type 0} (may : Port → List ℕ → Type 0) (port : Port) → Proceeds may (plain_left n) left (underway port m s g c) (underway port m s g2 c2)
   idles_on may port =
       let c1 : Counts = record c { idle = c.idle + 1 } in
-      let first : Proceeds may (plain_left n) (plain_left (n - 1)) port port m s g c m s g1 c1 = waits_on m s g g1 stands state place runs may port port c n some (plain_left (n - 1)) none waits refl in
-      let others : Proceeds may (plain_left (n - 1)) (plain_left (n - 1 - x.more)) port port m s g1 c1 m s (with_count x.more g1) (record c1 { idle = c.idle + 1 + x.more }) = idle_on m s g1 stands_now still_runs waits none x.small may port c1 (n - 1) x.more few x.within in
+      let first : Proceeds may (plain_left n) (plain_left (n - 1)) (underway port m s g c) (underway port m s g1 c1) = waits_on m s g g1 stands state place runs may port port c n some (plain_left (n - 1)) none waits refl in
+      let others : Proceeds may (plain_left (n - 1)) (plain_left (n - 1 - x.more)) (underway port m s g1 c1) (underway port m s (with_count x.more g1) (record c1 { idle = c.idle + 1 + x.more })) = idle_on m s g1 stands_now still_runs waits none x.small may port c1 (n - 1) x.more few x.within in
       let all = then_more may (plain_left n) (plain_left (n - 1)) (plain_left (n - 1 - x.more)) port port port m s g c m s g1 c1 m s (with_count x.more g1) (record c1 { idle = c.idle + 1 + x.more }) stands first others in
       let sum : c.idle + 1 + x.more ≡ c.idle + (x.more + 1) = omega arith in
       let counts : record c1 { idle = c.idle + 1 + x.more } ≡ c2 = (λ i. record c { idle = sum i }) ∙ sym x.counts in
-      subst (λ (l : Left). Proceeds may (plain_left n) l port port m s g c m s g2 c2) (sym left_now)
-      (subst (λ (h : GuestState). Proceeds may (plain_left n) (plain_left (n - 1 - x.more)) port port m s g c m s h c2) (sym x.guest)
-      (subst (λ (d : Counts). Proceeds may (plain_left n) (plain_left (n - 1 - x.more)) port port m s g c m s (with_count x.more g1) d) counts all))
+      subst (λ (l : Left). Proceeds may (plain_left n) l (underway port m s g c) (underway port m s g2 c2)) (sym left_now)
+      (subst (λ (h : GuestState). Proceeds may (plain_left n) (plain_left (n - 1 - x.more)) (underway port m s g c) (underway port m s h c2)) (sym x.guest)
+      (subst (λ (d : Counts). Proceeds may (plain_left n) (plain_left (n - 1 - x.more)) (underway port m s g c) (underway port m s (with_count x.more g1) d)) counts all))
 
   pub pays_idle : PaysOn (plain_left n) left m s g m s g2
   pays_idle =

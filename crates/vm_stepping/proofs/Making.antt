@@ -7,7 +7,7 @@ use Rattle.vax_hw.specs.Machine.{Machine}
 use Rattle.vm_stepping.specs.Guarded.{OnlyBoth}
 use Rattle.vm_console.specs.Appends.{Appends}
 use Rattle.vm_console.proofs.Composes.{Appends-nil}
-use Rattle.vm_exception.specs.Made.{MakesStep}
+use Rattle.vm_exception.specs.Made.{MakesStep, interrupted_by}
 use Rattle.vm_shadow.specs.Shadowed.{Shadowed}
 use Rattle.vm_shadow.specs.StandsFor.{DropsMarked, Marks, OnlyGuest, StandsFor}
 use Rattle.vm_state.specs.Initiate.{Initiation, KernelStackBad, StopsGuest, Taken, initiate}
@@ -21,7 +21,7 @@ use Rattle.vm_state.specs.Translation.{look, marked_by, marks_by}
 use Rattle.vm_state.specs.declared.exception.Exc.{Exc}
 use Rattle.vm_state.specs.declared.exception.Exc.TheVariants as excs
 use Rattle.vm_state.specs.declared.guest_state.GuestState.{GuestState}
-use Rattle.vm_stepping.specs.Made.{CountsRetired, KeepsRefinement, Made, steps_in, tally_of}
+use Rattle.vm_stepping.specs.Made.{CountsRetired, KeepsRefinement, Made, steps_in, tally_of, underway}
 use Rattle.vm_stepping.specs.declared.counts.Counts.{Counts}
 use Rattle.vm_stepping.proofs.Paying.{makes_moves, marks_moves, nothing_moves}
 
@@ -40,7 +40,7 @@ pub makes_goes : (x : Stepped) (m : Machine) (s : Shadowed) (g : GuestState) (m'
 makes_goes x m s g m' s' g' k = record { stands = k.stands; only = only_both s m m' k.only; place = k.place; tables = ap (λ (y : Shadowed). y.at) k.drops.rest }
 
 pub made_by : {Port : Type 0} (may : Port → List ℕ → Type 0) (x : Stepped) (port port' : Port) (m : Machine) (s : Shadowed) (g : GuestState) (c : Counts) (m' : Machine) (s' : Shadowed) (g' : GuestState) (c' : Counts) →
-    MakesStep x m s g m' s' g' → Appends may port port' x.shown → tally_of c' ≡ tallied x.kind (tally_of c) → steps_in c' ≡ steps_in c + 1 → c'.plain ≡ c.plain → c'.trail ≡ c.trail → Made may x port port' m s g c m' s' g' c'
+    MakesStep x m s g m' s' g' → Appends may port port' x.shown → tally_of c' ≡ tallied x.kind (tally_of c) → steps_in c' ≡ steps_in c + 1 → c'.plain ≡ c.plain → c'.trail ≡ c.trail → Made may x (underway port m s g c) (underway port' m' s' g' c')
 made_by may x port port' m s g c m' s' g' c' k shows tally one plain trail = record {
   run = λ shown i. record { guest = sym k.guest i; shown = shown ++ x.shown; tally = sym tally i };
   shows = shows;
@@ -57,7 +57,7 @@ kind_in kind g (KernelStackBad h written) = refl
 kind_in kind g (StopsGuest stop) = refl
 
 module _ {Port : Type 0} (may : Port → List ℕ → Type 0) (port port' : Port) (m : Machine) (s : Shadowed) (g : GuestState) (c : Counts) (m' : Machine) (s' : Shadowed) (g' : GuestState) where
-  pub made_fault : (e : Exc) → ((kind : Kind) → MakesStep (initiated_in kind (guest_of m.memory g) (initiate (guest_of m.memory g) e)) m s g m' s' g') → ((kind : Kind) → Appends may port port' (initiated_in kind (guest_of m.memory g) (initiate (guest_of m.memory g) e)).shown) → Made may (faulted (guest_of m.memory g) e) port port' m s g c m' s' g' (record c { faults = c.faults + 1 })
+  pub made_fault : (e : Exc) → ((kind : Kind) → MakesStep (initiated_in kind (guest_of m.memory g) (initiate (guest_of m.memory g) e)) m s g m' s' g') → ((kind : Kind) → Appends may port port' (initiated_in kind (guest_of m.memory g) (initiate (guest_of m.memory g) e)).shown) → Made may (faulted (guest_of m.memory g) e) (underway port m s g c) (underway port' m' s' g' (record c { faults = c.faults + 1 }))
   made_fault e makes shows =
       made_by may (faulted (guest_of m.memory g) e) port port' m s g c m' s' g' (record c { faults = c.faults + 1 }) (makes Fault) (shows Fault)
       (ap (λ k. tallied k (tally_of c)) (sym (kind_in Fault (guest_of m.memory g) (initiate (guest_of m.memory g) e)))) (omega arith) refl refl
@@ -67,15 +67,15 @@ module _ {Port : Type 0} (may : Port → List ℕ → Type 0) (port port' : Port
   kind_taken source (KernelStackBad h written) = refl
   kind_taken source (StopsGuest stop) = refl
 
-  pub made_interrupt : (source : Source) → let x = interrupted (guest_of m.memory g) source (initiate (guest_of m.memory g) (interrupt_of source)) in MakesStep x m s g m' s' g' → Appends may port port' x.shown → Made may x port port' m s g c m' s' g' (record c { interrupts = c.interrupts + 1 })
+  pub made_interrupt : (source : Source) → let x = interrupted_by (guest_of m.memory g) source in MakesStep x m s g m' s' g' → Appends may port port' x.shown → Made may x (underway port m s g c) (underway port' m' s' g' (record c { interrupts = c.interrupts + 1 }))
   made_interrupt source makes shows =
-      let x = interrupted (guest_of m.memory g) source (initiate (guest_of m.memory g) (interrupt_of source)) in
+      let x = interrupted_by (guest_of m.memory g) source in
       made_by may x port port' m s g c m' s' g' (record c { interrupts = c.interrupts + 1 }) makes shows
       (ap (λ k. tallied k (tally_of c)) (sym (kind_taken source (initiate (guest_of m.memory g) (interrupt_of source))))) (omega arith) refl refl
 
 -- a reference beyond memory stops the guest
 pub made_past : {Port : Type 0} (may : Port → List ℕ → Type 0) (port port' : Port) (m : Machine) (s : Shadowed) (g : GuestState) (c : Counts) → StandsFor m.memory s g → Appends may port port' (stop_text 0x10 (pc_of (state_of g))) →
-    Made may (stopped (guest_of m.memory g) PastMemory Fault) port port' m s g c m s (record g { halt = Some 0x10 }) (record c { faults = c.faults + 1 })
+    Made may (stopped (guest_of m.memory g) PastMemory Fault) (underway port m s g c) (underway port' m s (record g { halt = Some 0x10 }) (record c { faults = c.faults + 1 }))
 made_past may port port' m s g c stands shows = record {
   run = λ shown. refl;
   shows = shows;
@@ -106,10 +106,10 @@ clear_set : (h : Guest) (va : ℕ) → h.state.modify_faults ≡ false → clear
 clear_set h va e = ap (λ b. if b then faulted h (excs.ModifyFault va) else stepped (record h { memory = marked_by (look h (page_of va)) h.memory }) [] SetModify (marks_by (look h (page_of va)))) e
 
 pub made_marked : {Port : Type 0} (may : Port → List ℕ → Type 0) (port : Port) (m : Machine) (s : Shadowed) (g : GuestState) (c : Counts) (m' : Machine) (s' : Shadowed) (va : ℕ) → StandsFor m.memory s g → g.modify_faults ≡ false → Marks (page_of va) g m s m' s' →
-    Made may (clear_met (guest_of m.memory g) va) port port m s g c m' s' g (record c { modify = c.modify + 1 })
+    Made may (clear_met (guest_of m.memory g) va) (underway port m s g c) (underway port m' s' g (record c { modify = c.modify + 1 }))
 made_marked may port m s g c m' s' va stands off k =
     let c2 : Counts = record c { modify = c.modify + 1 } in
-    subst (λ x. Made may x port port m s g c m' s' g c2) (sym (clear_set (guest_of m.memory g) va off)) (record {
+    subst (λ x. Made may x (underway port m s g c) (underway port m' s' g c2)) (sym (clear_set (guest_of m.memory g) va off)) (record {
       run = λ shown i. record { guest = record { memory = sym k.memory i; state = state_of g }; shown = shown ++ []; tally = tally_of c2 };
       shows = Appends-nil may port;
       goes = record { stands = k.stands; only = only_both s m m' k.only; place = record { pages = refl; base = refl; start = refl }; tables = marked_at (look (guest_of m.memory g) (page_of va)) s s' k.drops };

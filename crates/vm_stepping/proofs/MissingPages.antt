@@ -31,7 +31,7 @@ use Rattle.vm_state.specs.declared.guest_state.GuestState.{GuestState}
 use Rattle.vm_state.specs.declared.walk.MemFault.{MemFault}
 use Rattle.vm_state.specs.declared.walk.Walk.{Walk}
 use Rattle.vm_state.specs.declared.walk.Walk.TheVariants as walks
-use Rattle.vm_stepping.specs.Made.{Made, Refills, unfilled}
+use Rattle.vm_stepping.specs.Made.{Made, Refills, unfilled, underway}
 use Rattle.vm_stepping.specs.declared.counts.Counts.{Counts}
 
 -- where memory alone changed
@@ -99,5 +99,5 @@ module _ (m : Machine) (s : Shadowed) (g : GuestState) (va : ℕ) (i : Intent) (
   stops e = faults_by interaction.Past (ap guest_place (sym e)) ∙ ap (λ w. sensed_as here (fault_of w)) (sym e)
 
 -- the step that is made is the instruction's
-pub made_as : {Port : Type 0} (may : Port → List ℕ → Type 0) (x y : Stepped) (port port' : Port) (m : Machine) (s : Shadowed) (g : GuestState) (c : Counts) (m' : Machine) (s' : Shadowed) (g' : GuestState) (c' : Counts) → x ≡ y → Made may y port port' m s g c m' s' g' c' → Made may x port port' m s g c m' s' g' c'
-made_as may x y port port' m s g c m' s' g' c' e k = subst (λ z. Made may z port port' m s g c m' s' g' c') (sym e) k
+pub made_as : {Port : Type 0} (may : Port → List ℕ → Type 0) (x y : Stepped) (port port' : Port) (m : Machine) (s : Shadowed) (g : GuestState) (c : Counts) (m' : Machine) (s' : Shadowed) (g' : GuestState) (c' : Counts) → x ≡ y → Made may y (underway port m s g c) (underway port' m' s' g' c') → Made may x (underway port m s g c) (underway port' m' s' g' c')
+made_as may x y port port' m s g c m' s' g' c' e k = subst (λ z. Made may z (underway port m s g c) (underway port' m' s' g' c')) (sym e) k

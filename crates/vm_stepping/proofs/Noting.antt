@@ -9,6 +9,7 @@ use Rattle.vax_table.specs.Tries.{Clear, Stopped}
 use Rattle.vax_table.specs.declared.act.Refusal.{Refusal}
 use Rattle.vax_hw.specs.declared.world.Exit.{Exit}
 use Rattle.vax_hw.specs.declared.world.Exit.TheVariants.{Arithmetic, Budget}
+use Rattle.vm_exception.specs.Standing.{standing}
 use Rattle.vm_stepping.specs.Guarded.{IsGuarded}
 use Rattle.vm_stepping.proofs.Completing.{guest_same}
 use Rattle.vm_exception.specs.Noted.{note_by_try, note_of_clear, note_of_instruction, note_of_sensed, taken_by}
@@ -28,12 +29,8 @@ use Rattle.vm_state.specs.declared.guest_state.GuestState.{GuestState}
 use Rattle.vm_state.specs.declared.walk.MemFault.{MemFault}
 use Rattle.vm_state.specs.declared.walk.Walk.{Walk}
 use Rattle.vm_state.specs.declared.walk.Walk.TheVariants as walks
-use Rattle.vm_stepping.specs.Noted.{NotesMet}
+use Rattle.vm_stepping.specs.Noted.{NotesMet, note_here}
 use Rattle.vm_stepping.proofs.Meeting.{stays_by}
-
--- by the guest's try of it
-abbrev pub note_here : Guest → Note
-note_here h = note_by_try h (guest_try h)
 
 pub note_is : (h : Guest) → note_of_instruction h ≡ note_here h
 unfolding note_of_instruction
@@ -69,7 +66,7 @@ pub notes_refused : (h : Guest) (refusal : Refusal) (x : Exc) (note : Note) → 
 notes_refused h refusal x note e same is = is ∙ ap (taken_by h) same ∙ sym (ap (note_by_try h) e)
 
 -- a guarded run that didn't retire leaves the guest as it is
-pub guarded_notes : (m : Machine) (s : Shadowed) (g : GuestState) (terms : ℕ) (m1 : Machine) (s1 : Shadowed) (g1 : GuestState) (e : Exit) (b : Bool) (note : Note) → (e ≡ Budget → ⊥) → ((kind : ℕ) → e ≡ Arithmetic kind → ⊥) → IsGuarded e m s g terms m1 s1 g1 →
+pub guarded_notes : (m : Machine) (s : Shadowed) (g : GuestState) (terms : ℕ) (m1 : Machine) (s1 : Shadowed) (g1 : GuestState) (e : Exit) (b : Bool) (note : Note) → (e ≡ Budget → ⊥) → ((kind : ℕ) → e ≡ Arithmetic kind → ⊥) → IsGuarded e terms (standing m s g) (standing m1 s1 g1) →
     NotesMet b (note_here (guest_of m1.memory g1)) note → NotesMet b (note_of_instruction (guest_of m.memory g)) note
 guarded_notes m s g terms m1 s1 g1 e b note not_budget not_arithmetic k met =
     let stays = stays_by m s g terms m1 s1 g1 e not_budget not_arithmetic k in

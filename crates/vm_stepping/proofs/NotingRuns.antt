@@ -4,6 +4,7 @@ use Rattle.vax_hw.specs.Machine.{Machine}
 use Rattle.vax_hw.specs.declared.world.Exit.{Exit}
 use Rattle.vax_hw.specs.declared.world.Exit.TheVariants.{Arithmetic, Budget, Denied, Emulate, Modify, NotValid, Refused}
 use Rattle.vax_table.specs.Whole.{Act, Plain, Probes, Traps}
+use Rattle.vm_exception.specs.Standing.{standing}
 use Rattle.vm_stepping.specs.Guarded.{IsGuarded, StepsGuarded}
 use Rattle.vm_stepping.specs.Ran.{IsAlone, IsRun}
 use Rattle.vm_stepping.specs.declared.bursts.Ran.{Ran}
@@ -19,7 +20,7 @@ use Rattle.vm_state.specs.State.{Guest}
 use Rattle.vm_state.specs.declared.exception.Exc.TheVariants as excs
 use Rattle.vm_state.specs.declared.guest_state.GuestState.{GuestState}
 use Rattle.vm_stepping.specs.Advances.{StepsOrRefills}
-use Rattle.vm_stepping.specs.Made.{Refills}
+use Rattle.vm_stepping.specs.Made.{Refills, underway}
 use Rattle.vm_stepping.specs.Noted.{NotesMet, NotesOne}
 use Rattle.vm_stepping.specs.declared.counts.Counts.{Counts}
 use Rattle.vm_stepping.specs.declared.turns.Left.{Left}
@@ -36,15 +37,15 @@ pub note_left : (h after : Guest) (trap : Option ℕ) → Leaves h after trap �
 note_left h after trap k = note_is h ∙ ap (note_by_try h) k.try ∙ by_act h after trap k.act k.later
 
 -- a guarded instruction that retired
-module _ (m : Machine) (s : Shadowed) (g : GuestState) (terms : ℕ) (m1 : Machine) (s1 : Shadowed) (g1 : GuestState) (e : Exit) (k : IsGuarded e m s g terms m1 s1 g1) where
+module _ (m : Machine) (s : Shadowed) (g : GuestState) (terms : ℕ) (m1 : Machine) (s1 : Shadowed) (g1 : GuestState) (e : Exit) (k : IsGuarded e terms (standing m s g) (standing m1 s1 g1)) where
   pub guarded_silent : e ≡ Budget → Nothing ≡ note_of_instruction (guest_of m.memory g)
   guarded_silent is =
-      let steps : StepsGuarded m s g terms None m1 s1 g1 = subst (λ x. IsGuarded x m s g terms m1 s1 g1) is k in
+      let steps : StepsGuarded m s g terms None m1 s1 g1 = subst (λ x. IsGuarded x terms (standing m s g) (standing m1 s1 g1)) is k in
       sym (note_left (guest_of m.memory g) (guest_of m1.memory g1) None steps.leaves)
 
   pub guarded_tells : (kind : ℕ) (note : Note) → e ≡ Arithmetic kind → note ≡ taken_by (guest_of m1.memory g1) (excs.Arithmetic kind) → note ≡ note_of_instruction (guest_of m.memory g)
   guarded_tells kind note is told =
-      let steps : StepsGuarded m s g terms (Some kind) m1 s1 g1 = subst (λ x. IsGuarded x m s g terms m1 s1 g1) is k in
+      let steps : StepsGuarded m s g terms (Some kind) m1 s1 g1 = subst (λ x. IsGuarded x terms (standing m s g) (standing m1 s1 g1)) is k in
       told ∙ sym (note_left (guest_of m.memory g) (guest_of m1.memory g1) (Some kind) steps.leaves)
 
 alone_before : (e : Exit) (h after : Guest) → IsBefore e → IsAlone e h after → after ≡ h
@@ -112,9 +113,9 @@ module _ (all n : ℕ) (m : Machine) (s : Shadowed) (g : GuestState) (ran : Ran)
             stays = λ one still. absurd (omega (arith, one, still));
           })
 
-      pub notes_fills : {Port : Type 0} (may : Port → List ℕ → Type 0) (port port' : Port) (c c2 : Counts) → b ≡ false → left ≡ counted_left (all - ran.done) → StepsOrRefills may b port port' m1 s g1 c m2 s2 g2 c2 → NotesOne (counted_left all) left m g m2 g2 note
+      pub notes_fills : {Port : Type 0} (may : Port → List ℕ → Type 0) (port port' : Port) (c c2 : Counts) → b ≡ false → left ≡ counted_left (all - ran.done) → StepsOrRefills may b (underway port m1 s g1 c) (underway port' m2 s2 g2 c2) → NotesOne (counted_left all) left m g m2 g2 note
       notes_fills may port port' c c2 not_made e done =
-          let fills : Refills m1 s g1 m2 s2 g2 = (subst (λ x. StepsOrRefills may x port port' m1 s g1 c m2 s2 g2 c2) not_made done).0 in
+          let fills : Refills m1 s g1 m2 s2 g2 = (subst (λ x. StepsOrRefills may x (underway port m1 s g1 c) (underway port' m2 s2 g2 c2)) not_made done).0 in
           let still_same : guest_of m2.memory g2 ≡ later = ap (guest_of m2.memory) fills.guest ∙ guest_same m1 m2 g1 fills.own in
           subst (λ l. NotesOne (counted_left all) l m g m2 g2 note) (sym e) (record {
             made = λ one none. let nothing = none_done one in absurd (omega (arith, one, none, nothing));

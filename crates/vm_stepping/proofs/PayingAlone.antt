@@ -4,6 +4,7 @@ use Rattle.vax_hw.specs.Machine.{Machine}
 use Rattle.vax_hw.specs.Real.{misses_after}
 use Rattle.vax_hw.specs.declared.world.Exit.{Exit}
 use Rattle.vax_hw.specs.declared.world.Exit.TheVariants.{Arithmetic, Budget, Denied, Emulate, Modify, NotValid, Refused}
+use Rattle.vm_exception.specs.Standing.{standing}
 use Rattle.vm_stepping.specs.Guarded.{IsGuarded, StaysGuarded, StepsGuarded}
 use Rattle.vm_stepping.proofs.Completing.{guest_same}
 use Rattle.vm_exception.specs.Made.{MakesStep}
@@ -104,21 +105,21 @@ module _ (m : Machine) (s : Shadowed) (g : GuestState) (e : Exit) (m1 : Machine)
         (subst (λ h. Owes (owed + (missed_by e + x.more)) (touches_now h) s2 t) same (x.owes owed t (owes_on owed t o)));
   }
 
-  pub pays_after : (b : Bool) → PaysFor b (missed_by e) m1 s1 g m2 s2 → PaysFor b 0 m s g m2 s2
+  pub pays_after : (b : Bool) → PaysFor b (missed_by e) (standing m1 s1 g) m2 s2 → PaysFor b 0 (standing m s g) m2 s2
   pays_after true x = settles_after x
   pays_after false x = owes_after x
 
 -- by the exit of the guarded run
-module _ (m : Machine) (s : Shadowed) (g : GuestState) (terms : ℕ) (m1 : Machine) (s1 : Shadowed) (g1 : GuestState) (stands : StandsFor m.memory s g) (e : Exit) (k : IsGuarded e m s g terms m1 s1 g1) where
+module _ (m : Machine) (s : Shadowed) (g : GuestState) (terms : ℕ) (m1 : Machine) (s1 : Shadowed) (g1 : GuestState) (stands : StandsFor m.memory s g) (e : Exit) (k : IsGuarded e terms (standing m s g) (standing m1 s1 g1)) where
   pub budget_pays : e ≡ Budget → Settles 0 m s g m1 s1
-  budget_pays is = guarded_pays m s g terms m1 s1 g1 stands (subst (λ x. IsGuarded x m s g terms m1 s1 g1) is k)
+  budget_pays is = guarded_pays m s g terms m1 s1 g1 stands (subst (λ x. IsGuarded x terms (standing m s g) (standing m1 s1 g1)) is k)
 
   module _ (m2 : Machine) (s2 : Shadowed) (g2 : GuestState) where
     pub trap_pays : (kind : ℕ) → e ≡ Arithmetic kind → ((k : Kind) → MakesStep (initiated_in k (guest_of m1.memory g1) (initiate (guest_of m1.memory g1) (excs.Arithmetic kind))) m1 s1 g1 m2 s2 g2) → Settles 0 m s g m2 s2
-    trap_pays kind is makes = trapped_pays m s g terms m1 s1 g1 stands kind m2 s2 g2 (subst (λ x. IsGuarded x m s g terms m1 s1 g1) is k) makes
+    trap_pays kind is makes = trapped_pays m s g terms m1 s1 g1 stands kind m2 s2 g2 (subst (λ x. IsGuarded x terms (standing m s g) (standing m1 s1 g1)) is k) makes
 
-    pub other_pays : (b : Bool) → (e ≡ Budget → ⊥) → ((kind : ℕ) → e ≡ Arithmetic kind → ⊥) → PaysFor b (missed_by e) m1 s1 g1 m2 s2 → PaysFor b 0 m s g m2 s2
+    pub other_pays : (b : Bool) → (e ≡ Budget → ⊥) → ((kind : ℕ) → e ≡ Arithmetic kind → ⊥) → PaysFor b (missed_by e) (standing m1 s1 g1) m2 s2 → PaysFor b 0 (standing m s g) m2 s2
     other_pays b not_budget not_arithmetic pays =
         let stays = stays_by m s g terms m1 s1 g1 e not_budget not_arithmetic k in
         let own : g1 ≡ g = stays.guest in
-        pays_after m s g e m1 s1 (subst (λ x. StaysGuarded m s g e m1 s1 x) own stays) m2 s2 b (subst (λ x. PaysFor b (missed_by e) m1 s1 x m2 s2) own pays)
+        pays_after m s g e m1 s1 (subst (λ x. StaysGuarded m s g e m1 s1 x) own stays) m2 s2 b (subst (λ x. PaysFor b (missed_by e) (standing m1 s1 x) m2 s2) own pays)

@@ -20,7 +20,7 @@ use Rattle.vm_state.specs.Touches.{Touching, touching_step, touching_steps}
 use Rattle.vm_state.specs.declared.guest_state.GuestState.{GuestState}
 use Rattle.vm_state.proofs.StepCases.{by_interrupt, unless_waiting}
 use Rattle.vm_stepping.specs.Advances.{IsBegun}
-use Rattle.vm_stepping.specs.Made.{Made}
+use Rattle.vm_stepping.specs.Made.{Made, underway}
 use Rattle.vm_stepping.specs.Pays.{OwesBy, PaysOn, touching_left}
 use Rattle.vm_stepping.specs.declared.counts.Counts.{Counts}
 use Rattle.vm_stepping.specs.declared.turns.Left.{Left}
@@ -29,6 +29,7 @@ use Rattle.vm_stepping.proofs.Paying.{no_more, nothing_moves}
 use Rattle.vm_stepping.proofs.PayingAlone.{misses_then}
 use Rattle.vm_stepping.proofs.Running.{counted_left, not_counted, plain_left}
 use Rattle.vm_simulation_laws.specs.Touched.{touches_now}
+use Rattle.vm_exception.specs.Made.{interrupted_by}
 
 -- first touches of one step, and of those after it
 one_touching : (n : ℕ) (h : Guest) (x : Stepped) (t : Touching) → 1 ≤ n → step h ≡ x → touching_steps n h t ≡ touching_steps (n - 1) x.guest (touching_step h x t)
@@ -88,10 +89,10 @@ module _ (m : Machine) (s : Shadowed) (g : GuestState) (g1 : GuestState) (stands
   comes o x e is = step_is m s g g1 stands state place runs o e ∙ is
 
   pub pays_interrupt : {Port : Type 0} (may : Port → List ℕ → Type 0) (port port' : Port) (c c2 : Counts) (source : Source) (m2 : Machine) (s2 : Shadowed) (g2 : GuestState) (left : Left) → due (state_of g1) ≡ Some source
-      → Made may (interrupted (guest_of m.memory g1) source (initiate (guest_of m.memory g1) (interrupt_of source))) port port' m s g1 c m2 s2 g2 c2 → left ≡ plain_left (n - 1) → PaysOn (plain_left n) left m s g m2 s2 g2
+      → Made may (interrupted_by (guest_of m.memory g1) source) (underway port m s g1 c) (underway port' m2 s2 g2 c2) → left ≡ plain_left (n - 1) → PaysOn (plain_left n) left m s g m2 s2 g2
   pays_interrupt may port port' c c2 source m2 s2 g2 left pending made e =
-      let x = interrupted (guest_of m.memory g1) source (initiate (guest_of m.memory g1) (interrupt_of source)) in
-      pays_untouched m s g stands n x m2 s2 g2 left some (comes (Some source) x pending (ap (λ y. interrupted y source (initiate y (interrupt_of source))) (sym begun_is)))
+      let x = interrupted_by (guest_of m.memory g1) source in
+      pays_untouched m s g stands n x m2 s2 g2 left some (comes (Some source) x pending (ap (λ y. interrupted_by y source) (sym begun_is)))
       (interrupt_untouched (guest_of m.memory g1) source (initiate (guest_of m.memory g1) (interrupt_of source))) made.moves made.misses (ap (λ (r : Run). r.guest) (made.run [])) e
 
   waiting_now : (b : Bool) → g1.waiting ≡ b → (counted (state_of g)).waiting ≡ b

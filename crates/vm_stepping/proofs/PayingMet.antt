@@ -8,6 +8,7 @@ use Rattle.vax_hw.specs.declared.world.Exit.TheVariants.{Denied, Modify, NotVali
 use Rattle.vax_table.specs.Interaction as interaction
 use Rattle.vax_table.specs.Interaction.{cause_of}
 use Rattle.vax_table.specs.Troubles.{intent_of}
+use Rattle.vm_exception.specs.Standing.{standing}
 use Rattle.vm_stepping.specs.Guarded.{ExitIsMet}
 use Rattle.vm_simulation_laws.specs.Misses.{KeepsFilled}
 use Rattle.vm_simulation_laws.specs.Present.{to_miss}
@@ -31,7 +32,7 @@ use Rattle.vm_state.specs.declared.exception.Exc.TheVariants as excs
 use Rattle.vm_state.specs.declared.guest_state.GuestState.{GuestState}
 use Rattle.vm_state.specs.declared.walk.MemFault.{MemFault}
 use Rattle.vm_state.specs.declared.walk.Walk.TheVariants as walks
-use Rattle.vm_stepping.specs.Made.{Made}
+use Rattle.vm_stepping.specs.Made.{Made, underway}
 use Rattle.vm_stepping.specs.Pays.{OwesStill, PaysFor, Settles, WereMissed}
 use Rattle.vm_stepping.specs.declared.counts.Counts.{Counts}
 use Rattle.vm_stepping.proofs.MissingPages.{faults, present, stops, walked}
@@ -40,7 +41,7 @@ use Rattle.vm_simulation_laws.specs.Touched.{AreFilled, touches_now}
 
 -- the step that is made is the instruction's
 pub made_settles : {Port : Type 0} {may : Port → List ℕ → Type 0} {x : Stepped} {port port' : Port} {m : Machine} {s : Shadowed} {g : GuestState} {c : Counts} {m' : Machine} {s' : Shadowed} {g' : GuestState} {c' : Counts} → (missed : ℕ) →
-    StandsFor m.memory s g → by_try (guest_of m.memory g) (guest_try (guest_of m.memory g)) ≡ x → AreFilled s (touches_now (guest_of m.memory g)).found → missed ≤ to_miss s (touches_now (guest_of m.memory g)) → Made may x port port' m s g c m' s' g' c' → Settles missed m s g m' s'
+    StandsFor m.memory s g → by_try (guest_of m.memory g) (guest_try (guest_of m.memory g)) ≡ x → AreFilled s (touches_now (guest_of m.memory g)).found → missed ≤ to_miss s (touches_now (guest_of m.memory g)) → Made may x (underway port m s g c) (underway port' m' s' g' c') → Settles missed m s g m' s'
 unfolding executed
 made_settles {x = x} {m = m} {s = s} {g = g} {m' = m'} {s' = s'} missed stands is filled within made =
     step_settles missed m s g m' s' (record x { touched = touches_now (guest_of m.memory g) }) stands (ap (λ (y : Stepped). record y { touched = touches_now (guest_of m.memory g) }) is) refl filled made.moves within made.misses
@@ -80,32 +81,32 @@ module _ (m : Machine) (s : Shadowed) (g : GuestState) (va : ℕ) (i : Intent) (
 
   module _ {Port : Type 0} (may : Port → List ℕ → Type 0) (port port' : Port) (c : Counts) (m' : Machine) (s' : Shadowed) (g' : GuestState) (c' : Counts) where
     -- the guest's own fault
-    pub fault_pays : (f : MemFault) → walks.Fault f ≡ walked m s g va i stands k → Made may (faulted here (excs.Memory f)) port port' m s g c m' s' g' c' → Settles missed m s g m' s'
+    pub fault_pays : (f : MemFault) → walks.Fault f ≡ walked m s g va i stands k → Made may (faulted here (excs.Memory f)) (underway port m s g c) (underway port' m' s' g' c') → Settles missed m s g m' s'
     fault_pays f e made = made_settles missed stands (faults m s g va i stands k f e) (w.filled (cause_of f.not_valid) (ap guest_place (sym e))) (were_few missed va s here w.there) made
 
-    pub stop_pays : walks.Beyond ≡ walked m s g va i stands k → Made may (stopped here PastMemory Fault) port port' m s g c m' s' g' c' → Settles missed m s g m' s'
+    pub stop_pays : walks.Beyond ≡ walked m s g va i stands k → Made may (stopped here PastMemory Fault) (underway port m s g c) (underway port' m' s' g' c') → Settles missed m s g m' s'
     stop_pays e made = made_settles missed stands (stops m s g va i stands k e) (w.filled interaction.Past (ap guest_place (sym e))) (were_few missed va s here w.there) made
 
 -- By the exit.
 module _ (b : Bool) (m : Machine) (s : Shadowed) (g : GuestState) (m' : Machine) (s' : Shadowed) (exit : Exit) where
   abbrev Missing : Intent → ℕ → Type 0
-  Missing i va = (missed : ℕ) → WereMissed missed i va m.memory s g → PaysFor b missed m s g m' s'
+  Missing i va = (missed : ℕ) → WereMissed missed i va m.memory s g → PaysFor b missed (standing m s g) m' s'
 
-  pub not_valid_pays : (va : ℕ) (write : Bool) (i : Intent) → exit ≡ NotValid va write → i ≡ intent_of write → Reaches exit m.memory s g → Missing i va → PaysFor b (missed_by exit) m s g m' s'
+  pub not_valid_pays : (va : ℕ) (write : Bool) (i : Intent) → exit ≡ NotValid va write → i ≡ intent_of write → Reaches exit m.memory s g → Missing i va → PaysFor b (missed_by exit) (standing m s g) m' s'
   not_valid_pays va write i is way reaches pays =
       let r = subst (λ e. Reaches e m.memory s g) is reaches in
-      subst (λ e. PaysFor b (missed_by e) m s g m' s') (sym is) (subst (λ j. Missing j va) way pays 1 (record { there = inr (refl, r.0); filled = λ c e. r.1 (c, e) }))
+      subst (λ e. PaysFor b (missed_by e) (standing m s g) m' s') (sym is) (subst (λ j. Missing j va) way pays 1 (record { there = inr (refl, r.0); filled = λ c e. r.1 (c, e) }))
 
-  pub denied_pays : (va : ℕ) (write : Bool) (i : Intent) → exit ≡ Denied va write → i ≡ intent_of write → Reaches exit m.memory s g → Missing i va → PaysFor b (missed_by exit) m s g m' s'
+  pub denied_pays : (va : ℕ) (write : Bool) (i : Intent) → exit ≡ Denied va write → i ≡ intent_of write → Reaches exit m.memory s g → Missing i va → PaysFor b (missed_by exit) (standing m s g) m' s'
   denied_pays va write i is way reaches pays =
       let r = subst (λ e. Reaches e m.memory s g) is reaches in
-      subst (λ e. PaysFor b (missed_by e) m s g m' s') (sym is) (subst (λ j. Missing j va) way pays 0 (record { there = inl refl; filled = λ c e. r }))
+      subst (λ e. PaysFor b (missed_by e) (standing m s g) m' s') (sym is) (subst (λ j. Missing j va) way pays 0 (record { there = inl refl; filled = λ c e. r }))
 
-  pub none_missed : (e : Exit) → exit ≡ e → missed_by e ≡ 0 → PaysFor b 0 m s g m' s' → PaysFor b (missed_by exit) m s g m' s'
-  none_missed e is none pays = subst (λ c. PaysFor b c m s g m' s') (sym (ap missed_by is ∙ none)) pays
+  pub none_missed : (e : Exit) → exit ≡ e → missed_by e ≡ 0 → PaysFor b 0 (standing m s g) m' s' → PaysFor b (missed_by exit) (standing m s g) m' s'
+  none_missed e is none pays = subst (λ c. PaysFor b c (standing m s g) m' s') (sym (ap missed_by is ∙ none)) pays
 
 module _ {Port : Type 0} (may : Port → List ℕ → Type 0) (port port' : Port) (m : Machine) (s : Shadowed) (g : GuestState) (c : Counts) (m' : Machine) (s' : Shadowed) (g' : GuestState) (c' : Counts) (stands : StandsFor m.memory s g) (exit : Exit) (reaches : Reaches exit m.memory s g) where
-  pub clear_pays : (va : ℕ) → exit ≡ Modify va → ExitIsMet exit m.memory s g → Made may (clear_met (guest_of m.memory g) va) port port' m s g c m' s' g' c' → Settles (missed_by exit) m s g m' s'
+  pub clear_pays : (va : ℕ) → exit ≡ Modify va → ExitIsMet exit m.memory s g → Made may (clear_met (guest_of m.memory g) va) (underway port m s g c) (underway port' m' s' g' c') → Settles (missed_by exit) m s g m' s'
   clear_pays va is told made =
       let t = subst (λ e. ExitIsMet e m.memory s g) is told in
       subst (λ e. Settles (missed_by e) m s g m' s') (sym is)

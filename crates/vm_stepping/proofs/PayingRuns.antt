@@ -32,6 +32,8 @@ use Rattle.vm_stepping.specs.declared.turns.Left.{Left}
 use Rattle.vm_stepping.proofs.PayingAlone.{misses_then, trap_moves}
 use Rattle.vm_stepping.proofs.Running.{IsBefore, before_goes, counted_left, is_before, plain_left}
 use Rattle.vm_simulation_laws.specs.Touched.{touches_now}
+use Rattle.vm_exception.specs.Standing.{standing}
+use Rattle.vm_stepping.specs.Made.{underway}
 
 -- first touches in two parts
 counted_touches : (all n : ℕ) (run : Run) (h : Guest) (t : Touching) → run.guest ≡ h → 1 ≤ n → n ≤ all → touching_counted all h t ≡ touching_steps (all - n) (after_counted n run).guest (touching_counted n h t)
@@ -214,16 +216,16 @@ module _ (all n : ℕ) (m : Machine) (s : Shadowed) (g : GuestState) (ran : Ran)
     pub pays_trap : (kind : ℕ) → ran.exit ≡ Arithmetic kind → left ≡ plain_left (all - ran.done) → ((j : Kind) → MakesStep (initiated_in j (guest_of m1.memory g1) (initiate (guest_of m1.memory g1) (excs.Arithmetic kind))) m1 s g1 m2 s2 g2) → PaysOn (counted_left all) left m s g m2 s2 g2
     pays_trap kind is e makes = subst (λ x. PaysOn (counted_left all) x m s g m2 s2 g2) (sym e) (trap_on all n m s g ran m1 g1 some most k kind is m2 s2 g2 makes)
 
-    module _ {Port : Type 0} (may : Port → List ℕ → Type 0) (port port' : Port) (c1 c2 : Counts) (not_budget : ran.exit ≡ Budget → ⊥) (not_arithmetic : (kind : ℕ) → ran.exit ≡ Arithmetic kind → ⊥) (b : Bool) (done : StepsOrRefills may b port port' m1 s g1 c1 m2 s2 g2 c2) (pays : PaysFor b (missed_by ran.exit) m1 s g1 m2 s2) where
+    module _ {Port : Type 0} (may : Port → List ℕ → Type 0) (port port' : Port) (c1 c2 : Counts) (not_budget : ran.exit ≡ Budget → ⊥) (not_arithmetic : (kind : ℕ) → ran.exit ≡ Arithmetic kind → ⊥) (b : Bool) (done : StepsOrRefills may b (underway port m1 s g1 c1) (underway port' m2 s2 g2 c2)) (pays : PaysFor b (missed_by ran.exit) (standing m1 s g1) m2 s2) where
       pub pays_step : b ≡ true → left ≡ plain_left (all - ran.done - 1) → PaysOn (counted_left all) left m s g m2 s2 g2
       pays_step is e =
-          let x = subst (λ y. StepsOrRefills may y port port' m1 s g1 c1 m2 s2 g2 c2) is done in
+          let x = subst (λ y. StepsOrRefills may y (underway port m1 s g1 c1) (underway port' m2 s2 g2 c2)) is done in
           subst (λ y. PaysOn (counted_left all) y m s g m2 s2 g2) (sym e)
-          (step_on all n m s g ran m1 g1 some most k (is_before ran.exit not_budget not_arithmetic) m2 s2 g2 (subst (λ y. PaysFor y (missed_by ran.exit) m1 s g1 m2 s2) is pays) (ap (λ (r : Run). r.guest) (x.run [])))
+          (step_on all n m s g ran m1 g1 some most k (is_before ran.exit not_budget not_arithmetic) m2 s2 g2 (subst (λ y. PaysFor y (missed_by ran.exit) (standing m1 s g1) m2 s2) is pays) (ap (λ (r : Run). r.guest) (x.run [])))
 
       pub pays_fills : b ≡ false → left ≡ counted_left (all - ran.done) → PaysOn (counted_left all) left m s g m2 s2 g2
       pays_fills is e =
-          let x = (subst (λ y. StepsOrRefills may y port port' m1 s g1 c1 m2 s2 g2 c2) is done).0 in
+          let x = (subst (λ y. StepsOrRefills may y (underway port m1 s g1 c1) (underway port' m2 s2 g2 c2)) is done).0 in
           let guest : guest_of m2.memory g2 ≡ guest_of m1.memory g1 = ap (guest_of m2.memory) x.guest ∙ (λ i. record { memory = x.own i; state = state_of g1 }) in
           subst (λ y. PaysOn (counted_left all) y m s g m2 s2 g2) (sym e)
-          (fills_on all n m s g ran m1 g1 some most k (is_before ran.exit not_budget not_arithmetic) m2 s2 g2 (subst (λ y. PaysFor y (missed_by ran.exit) m1 s g1 m2 s2) is pays) guest)
+          (fills_on all n m s g ran m1 g1 some most k (is_before ran.exit not_budget not_arithmetic) m2 s2 g2 (subst (λ y. PaysFor y (missed_by ran.exit) (standing m1 s g1) m2 s2) is pays) guest)

@@ -24,7 +24,7 @@ use Rattle.vm_state.specs.Step.{Idle, Stepped, initiated_in}
 use Rattle.vm_state.specs.declared.exception.Exc.TheVariants as excs
 use Rattle.vm_state.specs.declared.guest_state.GuestState.{GuestState}
 use Rattle.vm_stepping.specs.Advances.{Proceeds, Steps, StepsOrRefills, to_do}
-use Rattle.vm_stepping.specs.Made.{CountsRetired, KeepsRefinement, Refills, run_of, tally_of}
+use Rattle.vm_stepping.specs.Made.{CountsRetired, KeepsRefinement, Refills, run_of, tally_of, underway}
 use Rattle.vm_stepping.specs.declared.counts.Counts.{Counts}
 use Rattle.vm_stepping.specs.declared.turns.Left.{Left}
 use Rattle.vm_stepping.proofs.Going.{counted_sum, few_unfilled, goes_then, retired_then, steps_sum}
@@ -108,7 +108,7 @@ module _ (all n : ℕ) (m : Machine) (s : Shadowed) (g : GuestState) (c : Counts
     used : (k.left ≡ 0) × (1 ≤ ran.done)
     used = subst (λ e. EndsBurst e ran.done k.left m1.memory s g1) is k.ends
 
-    pub ends_budget : {Port : Type 0} (may : Port → List ℕ → Type 0) (port : Port) → Proceeds may (counted_left all) (plain_left (all - ran.done)) port port m s g c m1 s g1 c1
+    pub ends_budget : {Port : Type 0} (may : Port → List ℕ → Type 0) (port : Port) → Proceeds may (counted_left all) (plain_left (all - ran.done)) (underway port m s g c) (underway port m1 s g1 c1)
     ends_budget may port =
         let none = used.0 in
         let whole = k.budget in
@@ -132,7 +132,7 @@ module _ (all n : ℕ) (m : Machine) (s : Shadowed) (g : GuestState) (c : Counts
     one_done : 1 ≤ ran.done
     one_done = subst (λ e. EndsBurst e ran.done k.left m1.memory s g1) is k.ends
 
-    pub ends_trap : {Port : Type 0} (may : Port → List ℕ → Type 0) (port port' : Port) → MakesStep trap m1 s g1 m2 s2 g2 → Appends may port port' trap.shown → Proceeds may (counted_left all) (plain_left (all - ran.done)) port port' m s g c m2 s2 g2 c1
+    pub ends_trap : {Port : Type 0} (may : Port → List ℕ → Type 0) (port port' : Port) → MakesStep trap m1 s g1 m2 s2 g2 → Appends may port port' trap.shown → Proceeds may (counted_left all) (plain_left (all - ran.done)) (underway port m s g c) (underway port' m2 s2 g2 c1)
     ends_trap may port port' makes shows =
         let whole = k.budget in
         let rest : k.left + (all - n) ≡ all - ran.done = omega (arith, whole, most) in
@@ -173,7 +173,7 @@ module _ (all n : ℕ) (m : Machine) (s : Shadowed) (g : GuestState) (c : Counts
         ∙ sym (counted_sum k.left (all - n) (run_of m1.memory g1 c1 shown) met.0) ∙ ap (λ x. after_counted x (run_of m1.memory g1 c1 shown)) rest
 
     module _ {Port : Type 0} (may : Port → List ℕ → Type 0) (port port' : Port) (m2 : Machine) (s2 : Shadowed) (g2 : GuestState) (c2 : Counts) where
-      pub met_steps : Steps may port port' m1 s g1 c1 m2 s2 g2 c2 → Proceeds may (counted_left all) (plain_left (all - ran.done - 1)) port port' m s g c m2 s2 g2 c2
+      pub met_steps : Steps may (underway port m1 s g1 c1) (underway port' m2 s2 g2 c2) → Proceeds may (counted_left all) (plain_left (all - ran.done - 1)) (underway port m s g c) (underway port' m2 s2 g2 c2)
       met_steps x =
           let whole = k.budget in
           let some_left = met.0 in
@@ -192,7 +192,7 @@ module _ (all n : ℕ) (m : Machine) (s : Shadowed) (g : GuestState) (c : Counts
             begun = λ same. absurd (not_counted same);
           }
 
-      pub met_falls : Steps may port port' m1 s g1 c1 m2 s2 g2 c2 → to_do (plain_left (all - ran.done - 1)) s2 < to_do (counted_left all) s
+      pub met_falls : Steps may (underway port m1 s g1 c1) (underway port' m2 s2 g2 c2) → to_do (plain_left (all - ran.done - 1)) s2 < to_do (counted_left all) s
       met_falls x = let few = few_unfilled s2 in let some_left = met.0 in let whole = k.budget in omega (arith, few, some_left, whole, most)
 
     -- with pages filled for it
@@ -212,7 +212,7 @@ module _ (all n : ℕ) (m : Machine) (s : Shadowed) (g : GuestState) (c : Counts
         }
 
     module _ {Port : Type 0} (may : Port → List ℕ → Type 0) (port port' : Port) (m2 : Machine) (s2 : Shadowed) where
-      pub met_refills : IsQuiet n (state_of g) → Refills m1 s g1 m2 s2 g1 → Appends may port port' [] → Proceeds may (counted_left all) (counted_left (all - ran.done)) port port' m s g c m2 s2 g1 c1
+      pub met_refills : IsQuiet n (state_of g) → Refills m1 s g1 m2 s2 g1 → Appends may port port' [] → Proceeds may (counted_left all) (counted_left (all - ran.done)) (underway port m s g c) (underway port' m2 s2 g1 c1)
       met_refills q x nothing =
           let whole = k.budget in
           record {
@@ -231,14 +231,14 @@ module _ (all n : ℕ) (m : Machine) (s : Shadowed) (g : GuestState) (c : Counts
 
 -- what the code has after the run
 module _ (all n : ℕ) (m : Machine) (s : Shadowed) (g : GuestState) (c c1 : Counts) (ran : Ran) (m1 : Machine) (g1 : GuestState) (stands : StandsFor m.memory s g) (some : 1 ≤ n) (most : n ≤ all) (small : c.trail < 2 ^ 64) (k : IsRun n m s g ran m1 g1) (same : c1 ≡ more_plain c ran.done ran.terms) (left : Left) {Port : Type 0} (may : Port → List ℕ → Type 0) (port port' : Port) where
-  pub with_budget : ran.exit ≡ Budget → left ≡ plain_left (all - ran.done) → Proceeds may (counted_left all) left port port m s g c m1 s g1 c1
-  with_budget is e = subst (λ x. Proceeds may (counted_left all) x port port m s g c m1 s g1 c1) (sym e) (subst (λ x. Proceeds may (counted_left all) (plain_left (all - ran.done)) port port m s g c m1 s g1 x) (sym same) (ends_budget all n m s g c ran m1 g1 stands some most small k is may port))
+  pub with_budget : ran.exit ≡ Budget → left ≡ plain_left (all - ran.done) → Proceeds may (counted_left all) left (underway port m s g c) (underway port m1 s g1 c1)
+  with_budget is e = subst (λ x. Proceeds may (counted_left all) x (underway port m s g c) (underway port m1 s g1 c1)) (sym e) (subst (λ x. Proceeds may (counted_left all) (plain_left (all - ran.done)) (underway port m s g c) (underway port m1 s g1 x)) (sym same) (ends_budget all n m s g c ran m1 g1 stands some most small k is may port))
 
   module _ (m2 : Machine) (s2 : Shadowed) (g2 : GuestState) where
     pub with_trap_after : (kind : ℕ) → ran.exit ≡ Arithmetic kind → left ≡ plain_left (all - ran.done) →
         let trap = initiated_in Idle (guest_of m1.memory g1) (initiate (guest_of m1.memory g1) (excs.Arithmetic kind)) in
-        MakesStep trap m1 s g1 m2 s2 g2 → Appends may port port' trap.shown → Proceeds may (counted_left all) left port port' m s g c m2 s2 g2 c1
-    with_trap_after kind is e makes shows = subst (λ x. Proceeds may (counted_left all) x port port' m s g c m2 s2 g2 c1) (sym e) (subst (λ x. Proceeds may (counted_left all) (plain_left (all - ran.done)) port port' m s g c m2 s2 g2 x) (sym same) (ends_trap all n m s g c ran m1 g1 stands some most small k kind is m2 s2 g2 may port port' makes shows))
+        MakesStep trap m1 s g1 m2 s2 g2 → Appends may port port' trap.shown → Proceeds may (counted_left all) left (underway port m s g c) (underway port' m2 s2 g2 c1)
+    with_trap_after kind is e makes shows = subst (λ x. Proceeds may (counted_left all) x (underway port m s g c) (underway port' m2 s2 g2 c1)) (sym e) (subst (λ x. Proceeds may (counted_left all) (plain_left (all - ran.done)) (underway port m s g c) (underway port' m2 s2 g2 x)) (sym same) (ends_trap all n m s g c ran m1 g1 stands some most small k kind is m2 s2 g2 may port port' makes shows))
 
     pub trap_falls_so : (kind : ℕ) → ran.exit ≡ Arithmetic kind → left ≡ plain_left (all - ran.done) → to_do left s2 < to_do (counted_left all) s
     trap_falls_so kind is e = subst (λ x. to_do x s2 < to_do (counted_left all) s) (sym e) (trap_falls all n m s g c ran m1 g1 stands some most small k kind is m2 s2 g2)
@@ -254,21 +254,21 @@ module _ (all n : ℕ) (m : Machine) (s : Shadowed) (g : GuestState) (c c1 : Cou
       pub one_is_left : 1 ≤ all - ran.done
       one_is_left = one_left all n m s g c ran m1 g1 stands some most small k before
 
-      pub with_step : (b : Bool) → b ≡ true → left ≡ plain_left (all - ran.done - 1) → StepsOrRefills may b port port' m1 s g1 c1 m2 s2 g2 c2 → Proceeds may (counted_left all) left port port' m s g c m2 s2 g2 c2 × (to_do left s2 < to_do (counted_left all) s)
+      pub with_step : (b : Bool) → b ≡ true → left ≡ plain_left (all - ran.done - 1) → StepsOrRefills may b (underway port m1 s g1 c1) (underway port' m2 s2 g2 c2) → Proceeds may (counted_left all) left (underway port m s g c) (underway port' m2 s2 g2 c2) × (to_do left s2 < to_do (counted_left all) s)
       with_step b is e done =
-          let x = subst (λ y. Steps may port port' m1 s g1 y m2 s2 g2 c2) same (subst (λ y. StepsOrRefills may y port port' m1 s g1 c1 m2 s2 g2 c2) is done) in
-          subst (λ y. Proceeds may (counted_left all) y port port' m s g c m2 s2 g2 c2 × (to_do y s2 < to_do (counted_left all) s)) (sym e)
+          let x = subst (λ y. Steps may (underway port m1 s g1 y) (underway port' m2 s2 g2 c2)) same (subst (λ y. StepsOrRefills may y (underway port m1 s g1 c1) (underway port' m2 s2 g2 c2)) is done) in
+          subst (λ y. Proceeds may (counted_left all) y (underway port m s g c) (underway port' m2 s2 g2 c2) × (to_do y s2 < to_do (counted_left all) s)) (sym e)
           (met_steps all n m s g c ran m1 g1 stands some most small k before may port port' m2 s2 g2 c2 x, met_falls all n m s g c ran m1 g1 stands some most small k before may port port' m2 s2 g2 c2 x)
 
-      pub with_fills : (b : Bool) → b ≡ false → left ≡ counted_left (all - ran.done) → IsQuiet n (state_of g) → StepsOrRefills may b port port' m1 s g1 c1 m2 s2 g2 c2 → Proceeds may (counted_left all) left port port' m s g c m2 s2 g2 c2 × (to_do left s2 < to_do (counted_left all) s)
+      pub with_fills : (b : Bool) → b ≡ false → left ≡ counted_left (all - ran.done) → IsQuiet n (state_of g) → StepsOrRefills may b (underway port m1 s g1 c1) (underway port' m2 s2 g2 c2) → Proceeds may (counted_left all) left (underway port m s g c) (underway port' m2 s2 g2 c2) × (to_do left s2 < to_do (counted_left all) s)
       with_fills b is e q done =
-          let x = subst (λ y. StepsOrRefills may y port port' m1 s g1 c1 m2 s2 g2 c2) is done in
+          let x = subst (λ y. StepsOrRefills may y (underway port m1 s g1 c1) (underway port' m2 s2 g2 c2)) is done in
           let r : Refills m1 s g1 m2 s2 g2 = x.0 in
           let own : g2 ≡ g1 = r.guest in
           let refills = subst (λ y. Refills m1 s g1 m2 s2 y) own r in
-          subst (λ y. Proceeds may (counted_left all) y port port' m s g c m2 s2 g2 c2 × (to_do y s2 < to_do (counted_left all) s)) (sym e) (
-            subst (λ y. Proceeds may (counted_left all) (counted_left (all - ran.done)) port port' m s g c m2 s2 y c2) (sym own)
-                (subst (λ y. Proceeds may (counted_left all) (counted_left (all - ran.done)) port port' m s g c m2 s2 g1 y) (sym (x.1 ∙ same))
+          subst (λ y. Proceeds may (counted_left all) y (underway port m s g c) (underway port' m2 s2 g2 c2) × (to_do y s2 < to_do (counted_left all) s)) (sym e) (
+            subst (λ y. Proceeds may (counted_left all) (counted_left (all - ran.done)) (underway port m s g c) (underway port' m2 s2 y c2)) (sym own)
+                (subst (λ y. Proceeds may (counted_left all) (counted_left (all - ran.done)) (underway port m s g c) (underway port' m2 s2 g1 y)) (sym (x.1 ∙ same))
                 (met_refills all n m s g c ran m1 g1 stands some most small k before may port port' m2 s2 q refills x.2)),
             refills_falls all n m s g c ran m1 g1 stands some most small k before may port port' m2 s2 refills,
           )

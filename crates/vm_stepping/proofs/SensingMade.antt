@@ -18,7 +18,7 @@ use Rattle.vm_state.specs.Run.{tallied}
 use Rattle.vm_state.specs.Step.{Stepped, by_try, faulted}
 use Rattle.vm_state.specs.declared.exception.Exc.{Exc}
 use Rattle.vm_state.specs.declared.guest_state.GuestState.{GuestState}
-use Rattle.vm_stepping.specs.Made.{Made, Refills, steps_in, tally_of}
+use Rattle.vm_stepping.specs.Made.{Made, Refills, steps_in, tally_of, underway}
 use Rattle.vm_stepping.specs.declared.counts.Counts.{Counts}
 use Rattle.vm_stepping.proofs.Making.{only_both, same_counts}
 use Rattle.vm_stepping.proofs.SensingSteps.{Comes, Steps, text_now, trap_comes}
@@ -38,7 +38,7 @@ module _ {Port : Type 0} (may : Port → List ℕ → Type 0) (t : Trapped) (res
   comes_to : (r : Emulated) → result ≡ r → Comes r x shown m s g m' s' g'
   comes_to r e = subst (λ y. Comes y x shown m s g m' s' g') e (trap_comes m s g m' s' g' stands k.stands k.place k.only t result trapped few regs k.is)
 
-  made : (port' : Port) (c' : Counts) → Steps x s m' s' g' → Appends may port port' x.shown → tally_of c' ≡ tallied x.kind (tally_of c) → steps_in c' ≡ steps_in c + 1 → c'.plain ≡ c.plain → c'.trail ≡ c.trail → Made may x port port' m s g c m' s' g' c'
+  made : (port' : Port) (c' : Counts) → Steps x s m' s' g' → Appends may port port' x.shown → tally_of c' ≡ tallied x.kind (tally_of c) → steps_in c' ≡ steps_in c + 1 → c'.plain ≡ c.plain → c'.trail ≡ c.trail → Made may x (underway port m s g c) (underway port' m' s' g' c')
   made port' c' is shows tally one plain trail = record {
     run = λ before i. record { guest = sym is.guest i; shown = before ++ x.shown; tally = sym tally i };
     shows = shows;
@@ -49,22 +49,22 @@ module _ {Port : Type 0} (may : Port → List ℕ → Type 0) (t : Trapped) (res
     moves = is.moves;
   }
 
-  pub made_done : result ≡ outcomes.Done → Made may x port port1 m s g c m' s' g' (record c { sensitive = c.sensitive + 1 })
+  pub made_done : result ≡ outcomes.Done → Made may x (underway port m s g c) (underway port1 m' s' g' (record c { sensitive = c.sensitive + 1 }))
   made_done e =
       let to = comes_to outcomes.Done e in
       made port1 (record c { sensitive = c.sensitive + 1 }) to.0 (subst (Appends may port port1) (sym to.1) shows) (ap (λ kind. tallied kind (tally_of c)) (sym to.2)) (omega arith) refl refl
 
-  pub made_modify : (at : ℕ) → result ≡ outcomes.SetModify at → Made may x port port1 m s g c m' s' g' (record c { modify = c.modify + 1 })
+  pub made_modify : (at : ℕ) → result ≡ outcomes.SetModify at → Made may x (underway port m s g c) (underway port1 m' s' g' (record c { modify = c.modify + 1 }))
   made_modify at e =
       let to = comes_to (outcomes.SetModify at) e in
       made port1 (record c { modify = c.modify + 1 }) to.0 (subst (Appends may port port1) (to.3 ∙ sym to.1) shows) (ap (λ kind. tallied kind (tally_of c)) (sym to.2)) (omega arith) refl refl
 
-  pub made_stopped : (code : ℕ) (port' : Port) → result ≡ outcomes.Stopped code → Appends may port1 port' (text_now code g') → Made may x port port' m s g c m' s' g' (record c { sensitive = c.sensitive + 1 })
+  pub made_stopped : (code : ℕ) (port' : Port) → result ≡ outcomes.Stopped code → Appends may port1 port' (text_now code g') → Made may x (underway port m s g c) (underway port' m' s' g' (record c { sensitive = c.sensitive + 1 }))
   made_stopped code port' e text =
       let to = comes_to (outcomes.Stopped code) e in
       made port' (record c { sensitive = c.sensitive + 1 }) to.0 (subst (Appends may port port') (sym to.1) (shows_then may port port1 port' shown (text_now code g') to.3 shows text)) (ap (λ kind. tallied kind (tally_of c)) (sym to.2)) (omega arith) refl refl
 
-  pub made_past : (port' : Port) → result ≡ outcomes.PastMemory → Appends may port1 port' (text_now 0x10 g') → Made may x port port' m s g c m' s' g' (record c { faults = c.faults + 1 })
+  pub made_past : (port' : Port) → result ≡ outcomes.PastMemory → Appends may port1 port' (text_now 0x10 g') → Made may x (underway port m s g c) (underway port' m' s' g' (record c { faults = c.faults + 1 }))
   made_past port' e text =
       let to = comes_to outcomes.PastMemory e in
       made port' (record c { faults = c.faults + 1 }) to.0 (subst (Appends may port port') (sym to.1) (shows_then may port port1 port' shown (text_now 0x10 g') to.3 shows text)) (ap (λ kind. tallied kind (tally_of c)) (sym to.2)) (omega arith) refl refl
@@ -77,7 +77,7 @@ module _ {Port : Type 0} (may : Port → List ℕ → Type 0) (t : Trapped) (res
 
   module _ (e : Exc) (port' : Port) (m2 : Machine) (s2 : Shadowed) (g2 : GuestState) (c2 : Counts) where
     abbrev IsMade : Stepped → Port → Machine → Shadowed → GuestState → Type 0
-    IsMade y p n u h = Made may y p port' n u h c m2 s2 g2 c2
+    IsMade y p n u h = Made may y (underway p n u h c) (underway port' m2 s2 g2 c2)
 
     from_here : Stays m s g m' s' g' → IsMade (faulted (guest_of m'.memory g') e) port1 m' s' g' → IsMade (faulted (guest_of m.memory g) e) port1 m s g
     from_here same y =

@@ -27,7 +27,7 @@ use Rattle.vm_state.specs.State.{Guest}
 use Rattle.vm_state.specs.declared.exception.Exc.{Exc}
 use Rattle.vm_state.specs.declared.exception.Exc.TheVariants as excs
 use Rattle.vm_state.specs.declared.guest_state.GuestState.{GuestState}
-use Rattle.vm_stepping.proofs.Noting.{note_here}
+use Rattle.vm_stepping.specs.Noted.{note_here}
 use Rattle.vm_stepping.proofs.SensingScripts.{ActIsProper, IsNoProbe, proper_act}
 
 -- what is to be noted, by the outcome of the emulation

@@ -11,6 +11,7 @@ use Rattle.vax_hw.specs.declared.world.Exit.{Exit}
 use Rattle.vax_hw.specs.declared.world.Exit.TheVariants.{Arithmetic, Budget, Denied, Emulate, Modify, NotValid, Refused}
 use Rattle.vax_table.specs.Claims.{claims}
 use Rattle.vax_table.specs.Interaction.{IsIn}
+use Rattle.vm_exception.specs.Standing.{standing}
 use Rattle.vm_stepping.specs.Guarded.{CanAllow, CanClose, ClosesAfter, GrantsOrOpens, IsTried, IsUnfinished, RunsSome, clear_bits, count_below, is_retired, opened_by}
 use Rattle.vm_stepping.proofs.Closed.{completed_closed, mapped_in, unfinished_closed}
 use Rattle.vm_stepping.proofs.Completing.{alike, guest_same, maps_same, own_same, runs_again, serves_again, slot_same, split, stops, tried_from, unwritten}
@@ -94,12 +95,12 @@ module _ (opened : List ℕ) (m : Machine) (s : Shadowed) (g : GuestState) (va :
     told_now : (f : ℕ) → frame ≡ Some f → f ≡ mapped_frame s2 (real_at m2.memory s2 n)
     told_now f e = frame_told f a.told e ∙ sym (maps_same va m m2 s s2 g frame k.keeps.fits k.serves a n)
 
-    module _ (m3 : Machine) (s3 : Shadowed) (e : Exit) (ih : (o : List ℕ) → RunsGuest o m2 s2 g → IsTried e o m2 s2 g m3 s3) where
-      again : IsTried e now m2 s2 g m3 s3
+    module _ (m3 : Machine) (s3 : Shadowed) (e : Exit) (ih : (o : List ℕ) → RunsGuest o m2 s2 g → IsTried e o (standing m2 s2 g) m3 s3) where
+      again : IsTried e now (standing m2 s2 g) m3 s3
       again = ih now runs_now
 
       -- the page can be closed
-      can_by : (x : Option ℕ) → frame ≡ x → (r : Exit) → IsTried r (opened_by x n opened) m2 s2 g m3 s3 → CanClose x (is_retired r) m3 s3
+      can_by : (x : Option ℕ) → frame ≡ x → (r : Exit) → IsTried r (opened_by x n opened) (standing m2 s2 g) m3 s3 → CanClose x (is_retired r) m3 s3
       can_by None is Budget k = record { pending = frames_opened m2.memory s2 opened; opened = opened; keeps = k.keeps }
       can_by None is (Arithmetic kind) k = record { pending = frames_opened m2.memory s2 opened; opened = opened; keeps = k.keeps }
       can_by None is (NotValid a write) k = record { pending = []; opened = opened; keeps = k.keeps }
@@ -119,7 +120,7 @@ module _ (opened : List ℕ) (m : Machine) (s : Shadowed) (g : GuestState) (va :
       can_close = can_by frame refl e again
 
       -- the slot in use stays
-      slot_by : (r : Exit) → IsTried r now m2 s2 g m3 s3 → s3.slot ≡ s2.slot
+      slot_by : (r : Exit) → IsTried r now (standing m2 s2 g) m3 s3 → s3.slot ≡ s2.slot
       slot_by Budget x = ap (λ (y : Shadowed). y.slot) x.rest
       slot_by (Arithmetic kind) x = ap (λ (y : Shadowed). y.slot) x.rest
       slot_by (NotValid b write) x = ap (λ (y : Shadowed). y.slot) x.rest
@@ -141,8 +142,8 @@ module _ (opened : List ℕ) (m : Machine) (s : Shadowed) (g : GuestState) (va :
         serves2 : Serves g s2
         serves2 = serves_again va m m2 s s2 g frame k.keeps.fits k.serves a
 
-        closed_by : (x : Option ℕ) → frame ≡ x → (r : Exit) → IsTried r (opened_by x n opened) m2 s2 g m3 s3 → ClosesAfter n x (is_retired r) m3 s3 m4 s4 → IsTried r opened m2 s2 g m4 s4
-        closed_by None is r x c = subst (λ y. IsTried r opened m2 s2 g y s4) (sym c.0) (subst (IsTried r opened m2 s2 g m3) (sym c.1) x)
+        closed_by : (x : Option ℕ) → frame ≡ x → (r : Exit) → IsTried r (opened_by x n opened) (standing m2 s2 g) m3 s3 → ClosesAfter n x (is_retired r) (m3, s3) (m4, s4) → IsTried r opened (standing m2 s2 g) m4 s4
+        closed_by None is r x c = subst (λ y. IsTried r opened (standing m2 s2 g) y s4) (sym c.0) (subst (IsTried r opened (standing m2 s2 g) m3) (sym c.1) x)
         closed_by (Some f) is Budget x c = completed_closed n f opened m2 m3 m4 s2 s3 s4 g serves2 None (told_now f is) (claimed_now f is) x c
         closed_by (Some f) is (Arithmetic kind) x c = completed_closed n f opened m2 m3 m4 s2 s3 s4 g serves2 (Some kind) (told_now f is) (claimed_now f is) x c
         closed_by (Some f) is (NotValid b write) x c = unfinished_closed n f opened m2 m3 m4 s2 s3 s4 g serves2 (NotValid b write) x c
@@ -151,8 +152,8 @@ module _ (opened : List ℕ) (m : Machine) (s : Shadowed) (g : GuestState) (va :
         closed_by (Some f) is (Emulate t) x c = unfinished_closed n f opened m2 m3 m4 s2 s3 s4 g serves2 (Emulate t) x c
         closed_by (Some f) is (Refused r) x c = unfinished_closed n f opened m2 m3 m4 s2 s3 s4 g serves2 (Refused r) x c
 
-        pub tried_again : ClosesAfter (own_number s3 (page_of va)) frame (is_retired e) m3 s3 m4 s4 → IsTried e opened m s g m4 s4
-        tried_again c = tried_from m s g m2 s2 (alike va m m2 s s2 g frame k.keeps.fits k.serves a) m4 s4 opened e (closed_by frame refl e again (subst (λ x. ClosesAfter x frame (is_retired e) m3 s3 m4 s4) number_now c))
+        pub tried_again : ClosesAfter (own_number s3 (page_of va)) frame (is_retired e) (m3, s3) (m4, s4) → IsTried e opened (standing m s g) m4 s4
+        tried_again c = tried_from m s g m2 s2 (alike va m m2 s s2 g frame k.keeps.fits k.serves a) m4 s4 opened e (closed_by frame refl e again (subst (λ x. ClosesAfter x frame (is_retired e) (m3, s3) (m4, s4)) number_now c))
 
 -- The machine's first try leaves it as it was.
 module _ (opened : List ℕ) (m : Machine) (s : Shadowed) (g : GuestState) (k : RunsGuest opened m s g) (m1 : Machine) (first : Exit) (va : ℕ) (ran : (m1, first) ≡ real 1 m) (is : first ≡ Modify va) where
@@ -179,5 +180,5 @@ module _ (opened : List ℕ) (m : Machine) (s : Shadowed) (g : GuestState) (k : 
   pub as_clear : 2 * clear_bits m1.memory s < 2 * clear_bits m.memory s + 1
   as_clear = let same : clear_bits m1.memory s ≡ clear_bits m.memory s = ap (λ (x : Machine). clear_bits x.memory s) here in omega (arith, same)
 
-  pub tried_there : (m2 : Machine) (s2 : Shadowed) (e : Exit) → ((o : List ℕ) → RunsGuest o m1 s g → IsTried e o m1 s g m2 s2) → IsTried e opened m s g m2 s2
-  tried_there m2 s2 e ih = subst (λ x. IsTried e opened x s g m2 s2) here (ih opened (subst (λ x. RunsGuest opened x s g) (sym here) k))
+  pub tried_there : (m2 : Machine) (s2 : Shadowed) (e : Exit) → ((o : List ℕ) → RunsGuest o m1 s g → IsTried e o (standing m1 s g) m2 s2) → IsTried e opened (standing m s g) m2 s2
+  tried_there m2 s2 e ih = subst (λ x. IsTried e opened (standing x s g) m2 s2) here (ih opened (subst (λ x. RunsGuest opened x s g) (sym here) k))

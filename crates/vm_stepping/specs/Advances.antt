@@ -9,23 +9,23 @@ use Rattle.vm_simulation_laws.specs.Bursts.{IsQuiet, after_counted, with_count}
 use Rattle.vm_state.specs.Run.{Run, after_steps}
 use Rattle.vm_state.specs.State.{state_of}
 use Rattle.vm_state.specs.declared.guest_state.GuestState.{GuestState}
-use Rattle.vm_stepping.specs.Made.{CountsRetired, KeepsRefinement, Refills, no_counts, run_of, steps_in, unfilled}
+use Rattle.vm_stepping.specs.Made.{CountsRetired, KeepsRefinement, OnlyRefills, Underway, no_counts, run_at, run_of, steps_in, unfilled}
 use Rattle.vm_stepping.specs.declared.counts.Counts.{Counts}
 use Rattle.vm_stepping.specs.declared.turns.Left.{Left}
 
 -- A counted guest's instruction is done, with the trap after it: that is its step.
-pub record Steps {Port : Type 0} (may : Port → List ℕ → Type 0) (port port' : Port) (m : Machine) (s : Shadowed) (g : GuestState) (c : Counts) (m' : Machine) (s' : Shadowed) (g' : GuestState) (c' : Counts) : Type 0 where
+pub record Steps {Port : Type 0} (may : Port → List ℕ → Type 0) (before after : Underway Port) : Type 0 where
   pub text : List ℕ
-  pub run : (shown : List ℕ) → after_counted 1 (run_of m.memory g c shown) ≡ run_of m'.memory g' c' (shown ++ text)
-  pub shows : Appends may port port' text
-  pub goes : KeepsRefinement m s g m' s' g'
-  pub one : steps_in c' ≡ steps_in c + 1
-  pub retired : CountsRetired m c m' c'
+  pub run : (shown : List ℕ) → after_counted 1 (run_at before shown) ≡ run_at after (shown ++ text)
+  pub shows : Appends may before.port after.port text
+  pub goes : KeepsRefinement before.machine before.tables before.state after.machine after.tables after.state
+  pub one : steps_in after.counts ≡ steps_in before.counts + 1
+  pub retired : CountsRetired before.machine before.counts after.machine after.counts
 
 -- the step is made; or pages are filled, and the instruction is tried again
-abbrev pub StepsOrRefills : {Port : Type 0} → (Port → List ℕ → Type 0) → Bool → Port → Port → Machine → Shadowed → GuestState → Counts → Machine → Shadowed → GuestState → Counts → Type 0
-StepsOrRefills may true port port' m s g c m' s' g' c' = Steps may port port' m s g c m' s' g' c'
-StepsOrRefills may false port port' m s g c m' s' g' c' = Refills m s g m' s' g' × (c' ≡ c) × Appends may port port' []
+abbrev pub StepsOrRefills : {Port : Type 0} → (Port → List ℕ → Type 0) → Bool → (before after : Underway Port) → Type 0
+StepsOrRefills may true before after = Steps may before after
+StepsOrRefills may false before after = OnlyRefills may before after
 
 -- the steps that are left, of which the first may be counted already
 abbrev pub after_left_steps : Left → Run → Run
@@ -36,15 +36,15 @@ abbrev pub IsBegun : Left → GuestState → Type 0
 IsBegun left g = left.counted ≡ true → (1 ≤ left.steps) × IsQuiet 1 (state_of g)
 
 -- Some of the steps that are left are made, or the next is begun, or pages are filled for it.
-pub record Proceeds {Port : Type 0} (may : Port → List ℕ → Type 0) (left left' : Left) (port port' : Port) (m : Machine) (s : Shadowed) (g : GuestState) (c : Counts) (m' : Machine) (s' : Shadowed) (g' : GuestState) (c' : Counts) : Type 0 where
+pub record Proceeds {Port : Type 0} (may : Port → List ℕ → Type 0) (left left' : Left) (before after : Underway Port) : Type 0 where
   pub text : List ℕ
-  pub run : (shown : List ℕ) → after_left_steps left (run_of m.memory g c shown) ≡ after_left_steps left' (run_of m'.memory g' c' (shown ++ text))
-  pub shows : Appends may port port' text
-  pub goes : KeepsRefinement m s g m' s' g'
-  pub kinds : steps_in c' + left'.steps ≡ steps_in c + left.steps
+  pub run : (shown : List ℕ) → after_left_steps left (run_at before shown) ≡ after_left_steps left' (run_at after (shown ++ text))
+  pub shows : Appends may before.port after.port text
+  pub goes : KeepsRefinement before.machine before.tables before.state after.machine after.tables after.state
+  pub kinds : steps_in after.counts + left'.steps ≡ steps_in before.counts + left.steps
   pub fewer : left'.steps ≤ left.steps
-  pub retired : CountsRetired m c m' c'
-  pub begun : IsBegun left' g'
+  pub retired : CountsRetired before.machine before.counts after.machine after.counts
+  pub begun : IsBegun left' after.state
 
 -- A guest whose next step is counted is idle in it and in some that follow, in none of which its clock wraps.
 pub record Idles (steps : ℕ) (left : Left) (g : GuestState) (c : Counts) (g' : GuestState) (c' : Counts) : Type 0 where

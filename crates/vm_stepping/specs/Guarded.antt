@@ -8,6 +8,7 @@ use Rattle.vax_hw.specs.declared.world.Exit.{Exit}
 use Rattle.vax_hw.specs.declared.world.Exit.TheVariants.{Arithmetic, Budget, Denied, Emulate, Modify, NotValid, Refused}
 use Rattle.vax_table.specs.Tries.{Clear}
 use Rattle.vm_simulation_laws.specs.Runs.{Reaches}
+use Rattle.vm_exception.specs.Standing.{Standing}
 use Rattle.vm_shadow.specs.Layout.{all_entries}
 use Rattle.vm_shadow.specs.Calls.{OnlyTables}
 use Rattle.vm_shadow.specs.Shadowed.{Fits, Keeps, Shadowed, is_pending, mapped_frame, read_at, real_at}
@@ -70,14 +71,14 @@ pub record IsUnfinished (opened : List ℕ) (m : Machine) (s : Shadowed) (g : Gu
   pub tells : ExitIsMet e m'.memory s' g
   pub reaches : Reaches e m'.memory s' g
 
-abbrev pub IsTried : Exit → List ℕ → Machine → Shadowed → GuestState → Machine → Shadowed → Type 0
-IsTried Budget opened m s g m' s' = IsCompleted opened m s g None m' s'
-IsTried (Arithmetic kind) opened m s g m' s' = IsCompleted opened m s g (Some kind) m' s'
-IsTried (NotValid va write) opened m s g m' s' = IsUnfinished opened m s g (NotValid va write) m' s'
-IsTried (Denied va write) opened m s g m' s' = IsUnfinished opened m s g (Denied va write) m' s'
-IsTried (Modify va) opened m s g m' s' = IsUnfinished opened m s g (Modify va) m' s'
-IsTried (Emulate t) opened m s g m' s' = IsUnfinished opened m s g (Emulate t) m' s'
-IsTried (Refused r) opened m s g m' s' = IsUnfinished opened m s g (Refused r) m' s'
+abbrev pub IsTried : Exit → List ℕ → Standing → Machine → Shadowed → Type 0
+IsTried Budget opened h m' s' = IsCompleted opened h.machine h.tables h.state None m' s'
+IsTried (Arithmetic kind) opened h m' s' = IsCompleted opened h.machine h.tables h.state (Some kind) m' s'
+IsTried (NotValid va write) opened h m' s' = IsUnfinished opened h.machine h.tables h.state (NotValid va write) m' s'
+IsTried (Denied va write) opened h m' s' = IsUnfinished opened h.machine h.tables h.state (Denied va write) m' s'
+IsTried (Modify va) opened h m' s' = IsUnfinished opened h.machine h.tables h.state (Modify va) m' s'
+IsTried (Emulate t) opened h m' s' = IsUnfinished opened h.machine h.tables h.state (Emulate t) m' s'
+IsTried (Refused r) opened h m' s' = IsUnfinished opened h.machine h.tables h.state (Refused r) m' s'
 
 abbrev pub is_retired : Exit → Bool
 is_retired Budget = true
@@ -129,9 +130,9 @@ pub record ClosesOne (n frame : ℕ) (retired : Bool) (m : Machine) (s : Shadowe
   pub drops : drops_by retired frame s s'
   pub only : OnlyTables s.at m m'
 
-abbrev pub ClosesAfter : (n : ℕ) → Option ℕ → Bool → Machine → Shadowed → Machine → Shadowed → Type 0
-ClosesAfter n None retired m s m' s' = (m' ≡ m) × (s' ≡ s)
-ClosesAfter n (Some frame) retired m s m' s' = ClosesOne n frame retired m s m' s'
+abbrev pub ClosesAfter : (n : ℕ) → Option ℕ → Bool → (before after : Machine × Shadowed) → Type 0
+ClosesAfter n None retired before after = (after.0 ≡ before.0) × (after.1 ≡ before.1)
+ClosesAfter n (Some frame) retired before after = ClosesOne n frame retired before.0 before.1 after.0 after.1
 
 -- how many numbers below another have a property
 abbrev pub count_below : (ℕ → Bool) → ℕ → ℕ
@@ -175,11 +176,11 @@ pub record StaysGuarded (m : Machine) (s : Shadowed) (g : GuestState) (e : Exit)
   pub tells : ExitIsMet e m'.memory s' g
   pub reaches : Reaches e m'.memory s' g
 
-abbrev pub IsGuarded : Exit → Machine → Shadowed → GuestState → (terms : ℕ) → Machine → Shadowed → GuestState → Type 0
-IsGuarded Budget m s g terms m' s' g' = StepsGuarded m s g terms None m' s' g'
-IsGuarded (Arithmetic kind) m s g terms m' s' g' = StepsGuarded m s g terms (Some kind) m' s' g'
-IsGuarded (NotValid va write) m s g terms m' s' g' = StaysGuarded m s g (NotValid va write) m' s' g'
-IsGuarded (Denied va write) m s g terms m' s' g' = StaysGuarded m s g (Denied va write) m' s' g'
-IsGuarded (Modify va) m s g terms m' s' g' = StaysGuarded m s g (Modify va) m' s' g'
-IsGuarded (Emulate t) m s g terms m' s' g' = StaysGuarded m s g (Emulate t) m' s' g'
-IsGuarded (Refused r) m s g terms m' s' g' = StaysGuarded m s g (Refused r) m' s' g'
+abbrev pub IsGuarded : Exit → (terms : ℕ) → (before after : Standing) → Type 0
+IsGuarded Budget terms h h' = StepsGuarded h.machine h.tables h.state terms None h'.machine h'.tables h'.state
+IsGuarded (Arithmetic kind) terms h h' = StepsGuarded h.machine h.tables h.state terms (Some kind) h'.machine h'.tables h'.state
+IsGuarded (NotValid va write) terms h h' = StaysGuarded h.machine h.tables h.state (NotValid va write) h'.machine h'.tables h'.state
+IsGuarded (Denied va write) terms h h' = StaysGuarded h.machine h.tables h.state (Denied va write) h'.machine h'.tables h'.state
+IsGuarded (Modify va) terms h h' = StaysGuarded h.machine h.tables h.state (Modify va) h'.machine h'.tables h'.state
+IsGuarded (Emulate t) terms h h' = StaysGuarded h.machine h.tables h.state (Emulate t) h'.machine h'.tables h'.state
+IsGuarded (Refused r) terms h h' = StaysGuarded h.machine h.tables h.state (Refused r) h'.machine h'.tables h'.state

@@ -43,16 +43,30 @@ pub record CountsRetired (m : Machine) (c : Counts) (m' : Machine) (c' : Counts)
   pub retired : (m'.retired + c.plain) % 2 ^ 64 ≡ (m.retired + c'.plain) % 2 ^ 64
   pub trail : (m'.trail + c.trail) % 2 ^ 64 ≡ (m.trail + c'.trail) % 2 ^ 64
 
+-- how far a guest's run is: what is shown, the machine and the guest in it, and the steps that are counted
+pub record Underway (Port : Type 0) : Type 0 where
+  pub port : Port
+  pub machine : Machine
+  pub tables : Shadowed
+  pub state : GuestState
+  pub counts : Counts
+
+abbrev pub underway : {Port : Type 0} → Port → Machine → Shadowed → GuestState → Counts → Underway Port
+underway port m s g c = record { port = port; machine = m; tables = s; state = g; counts = c }
+
+abbrev pub run_at : {Port : Type 0} → Underway Port → List ℕ → Run
+run_at p shown = run_of p.machine.memory p.state p.counts shown
+
 -- This step is made: what was read from frames that it writes may be dropped, the tables switch to its registers, and the machine
 -- misses nothing.
-pub record Made {Port : Type 0} (may : Port → List ℕ → Type 0) (x : Stepped) (port port' : Port) (m : Machine) (s : Shadowed) (g : GuestState) (c : Counts) (m' : Machine) (s' : Shadowed) (g' : GuestState) (c' : Counts) : Type 0 where
-  pub run : (shown : List ℕ) → after_step (run_of m.memory g c shown) x ≡ run_of m'.memory g' c' (shown ++ x.shown)
-  pub shows : Appends may port port' x.shown
-  pub goes : KeepsRefinement m s g m' s' g'
-  pub one : steps_in c' ≡ steps_in c + 1
-  pub retired : CountsRetired m c m' c'
-  pub misses : m'.misses ≡ m.misses
-  pub moves : Moves x.written x.guest.state.tables s s'
+pub record Made {Port : Type 0} (may : Port → List ℕ → Type 0) (x : Stepped) (before after : Underway Port) : Type 0 where
+  pub run : (shown : List ℕ) → after_step (run_at before shown) x ≡ run_at after (shown ++ x.shown)
+  pub shows : Appends may before.port after.port x.shown
+  pub goes : KeepsRefinement before.machine before.tables before.state after.machine after.tables after.state
+  pub one : steps_in after.counts ≡ steps_in before.counts + 1
+  pub retired : CountsRetired before.machine before.counts after.machine after.counts
+  pub misses : after.machine.misses ≡ before.machine.misses
+  pub moves : Moves x.written x.guest.state.tables before.tables after.tables
 
 -- how many entries aren't filled
 unfoldable pub unfilled : Shadowed → ℕ
@@ -68,7 +82,14 @@ pub record Refills (m : Machine) (s : Shadowed) (g : GuestState) (m' : Machine) 
   pub tables : s'.at ≡ s.at
   pub fewer : unfilled s' < unfilled s
 
+-- pages alone are filled in a guest's run
+abbrev pub OnlyRefills : {Port : Type 0} → (Port → List ℕ → Type 0) → (before after : Underway Port) → Type 0
+OnlyRefills may before after =
+    Refills before.machine before.tables before.state after.machine after.tables after.state
+    × (after.counts ≡ before.counts) × Appends may before.port after.port []
+
 -- A counted guest's instruction: the step in which it is reached is made; or pages are filled, and it is tried again.
-abbrev pub IsMet : {Port : Type 0} → (Port → List ℕ → Type 0) → Bool → Port → Port → Machine → Shadowed → GuestState → Counts → Machine → Shadowed → GuestState → Counts → Type 0
-IsMet may true port port' m s g c m' s' g' c' = Made may (by_try (guest_of m.memory g) (guest_try (guest_of m.memory g))) port port' m s g c m' s' g' c'
-IsMet may false port port' m s g c m' s' g' c' = Refills m s g m' s' g' × (c' ≡ c) × Appends may port port' []
+abbrev pub IsMet : {Port : Type 0} → (Port → List ℕ → Type 0) → Bool → (before after : Underway Port) → Type 0
+IsMet may true before after =
+    Made may (by_try (guest_of before.machine.memory before.state) (guest_try (guest_of before.machine.memory before.state))) before after
+IsMet may false before after = OnlyRefills may before after

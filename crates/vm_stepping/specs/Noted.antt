@@ -1,8 +1,9 @@
 -- What the kernel's work notes of a guest's next step.
 use Rattle.std.specs.Prelude.{◌≡◌, Bool, true, false, if◌then◌else◌}
 use Rattle.vax_hw.specs.Machine.{Machine}
-use Rattle.vm_exception.specs.Noted.{note_of, note_of_instruction}
+use Rattle.vm_exception.specs.Noted.{note_by_try, note_of, note_of_instruction}
 use Rattle.vm_exception.specs.declared.note.Note.{Note}
+use Rattle.vm_simulation_laws.specs.Loaded.{guest_try}
 use Rattle.vm_state.specs.Partition.{guest_of}
 use Rattle.vm_state.specs.State.{Guest}
 use Rattle.vm_state.specs.declared.guest_state.GuestState.{GuestState}
@@ -12,6 +13,10 @@ use Rattle.vm_stepping.specs.declared.turns.Left.{Left}
 abbrev pub NotesMet : Bool → Note → Note → Type 0
 NotesMet true told note = note ≡ told
 NotesMet false told note = Unit {0}
+
+-- of a guest's instruction, by the guest's try of it
+abbrev pub note_here : Guest → Note
+note_here h = note_by_try h (guest_try h)
 
 -- of a guest whose next step may be counted already
 abbrev pub note_of_left : Left → Guest → Note

@@ -13,6 +13,7 @@ use Rattle.vm_state.specs.State.{Guest}
 use Rattle.vm_state.specs.Step.{executed}
 use Rattle.vm_state.specs.Touches.{Touching, touching_step, touching_steps}
 use Rattle.vm_state.specs.declared.guest_state.GuestState.{GuestState}
+use Rattle.vm_exception.specs.Standing.{Standing}
 use Rattle.vm_stepping.specs.declared.turns.Left.{Left}
 use Rattle.vm_simulation_laws.specs.Touched.{AreFilled, touches_now}
 
@@ -35,9 +36,9 @@ pub record OwesStill (missed : ℕ) (m : Machine) (s : Shadowed) (g : GuestState
   pub misses : Misses more m m'
   pub owes : (owed : ℕ) (t : Touching) → Owes owed (touches_now (guest_of m.memory g)) s t → Owes (owed + (missed + more)) (touches_now (guest_of m.memory g)) s' t
 
-abbrev pub PaysFor : Bool → ℕ → Machine → Shadowed → GuestState → Machine → Shadowed → Type 0
-PaysFor true missed m s g m' s' = Settles missed m s g m' s'
-PaysFor false missed m s g m' s' = OwesStill missed m s g m' s'
+abbrev pub PaysFor : Bool → ℕ → Standing → Machine → Shadowed → Type 0
+PaysFor true missed h m' s' = Settles missed h.machine h.tables h.state m' s'
+PaysFor false missed h m' s' = OwesStill missed h.machine h.tables h.state m' s'
 
 -- first touches of the steps that are left, of which the first may be counted already: then misses may be outstanding in it
 abbrev pub touching_left : Bool → ℕ → Guest → Touching → Touching

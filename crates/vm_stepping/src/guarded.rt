@@ -1,5 +1,6 @@
 ghost use Rattle.std.specs.Prelude.{◌≡◌, ◌≤◌, ◌+◌, ◌*◌, ℕ, List, length};
 ghost use Rattle.vax_arch.specs.Walk.{page_of};
+ghost use Rattle.vm_exception.specs.Standing.{standing};
 ghost use Rattle.vm_stepping.specs.Guarded.{CanAllow, CanClose, ClosesAfter, GrantsOrOpens, IsGuarded, IsTried, RunsSome, is_retired};
 ghost use Rattle.vm_shadow.specs.Layout.{IsCovered};
 ghost use Rattle.vm_shadow.specs.Shadowed.{Fits};
@@ -59,7 +60,7 @@ fn close_after<H: Hardware>(
 )
     requires keeps { CanClose frame (is_retired exit.now) (H.machine machine.old) s.old }
     requires covered { IsCovered (page_of va) }
-    ensures { ClosesAfter (own_number s.old (page_of va)) frame (is_retired exit.now) (H.machine machine.old) s.old (H.machine machine.new) s.new }
+    ensures { ClosesAfter (own_number s.old (page_of va)) frame (is_retired exit.now) (H.machine machine.old, s.old) (H.machine machine.new, s.new) }
 {
     let Some(frame) = frame else {
         return;
@@ -78,7 +79,8 @@ fn close_after<H: Hardware>(
 #[cycle(complete)]
 fn complete<H: Hardware>(machine: &mut H, s: &mut Shadow, g: &GuestState) -> Exit
     requires { RunsSome (H.machine machine.old) s.old g.now }
-    ensures { (opened : List ℕ) → RunsGuest opened (H.machine machine.old) s.old g.now → IsTried result opened (H.machine machine.old) s.old g.now (H.machine machine.new) s.new }
+    ensures { (opened : List ℕ) → RunsGuest opened (H.machine machine.old) s.old g.now →
+        IsTried result opened (standing (H.machine machine.old) s.old g.now) (H.machine machine.new) s.new }
 {
     let exit = machine.run(1);
     let Exit::Modify { va } = exit else {
@@ -96,7 +98,8 @@ fn complete<H: Hardware>(machine: &mut H, s: &mut Shadow, g: &GuestState) -> Exi
 fn complete_written<H: Hardware>(machine: &mut H, s: &mut Shadow, g: &GuestState, va: u32) -> Exit
     requires runs { RunsSome (H.machine machine.old) s.old g.now }
     requires written { CanAllow va (H.machine machine.old) s.old g.now }
-    ensures { (opened : List ℕ) → RunsGuest opened (H.machine machine.old) s.old g.now → IsTried result opened (H.machine machine.old) s.old g.now (H.machine machine.new) s.new }
+    ensures { (opened : List ℕ) → RunsGuest opened (H.machine machine.old) s.old g.now →
+        IsTried result opened (standing (H.machine machine.old) s.old g.now) (H.machine machine.new) s.new }
 {
     let frame = allow(machine, s, va);
     let exit = complete(machine, s, g);
@@ -110,7 +113,7 @@ fn complete_written<H: Hardware>(machine: &mut H, s: &mut Shadow, g: &GuestState
 pub fn run_guarded<H: Hardware>(machine: &mut H, s: &mut Shadow, g: &mut GuestState, va: u32) -> Ran
     requires stands { StandsFor (H.machine machine.old).memory s.old g.old }
     requires written { CanAllow va (H.machine machine.old) s.old g.old }
-    ensures { IsGuarded result.exit (H.machine machine.old) s.old g.old result.terms (H.machine machine.new) s.new g.new }
+    ensures { IsGuarded result.exit result.terms (standing (H.machine machine.old) s.old g.old) (standing (H.machine machine.new) s.new g.new) }
 {
     let trail = machine.trail();
     machine.load_world(&s.world(g));

@@ -5,12 +5,12 @@ ghost use Rattle.vm_state.specs.Partition.{guest_of};
 ghost use Rattle.vm_exception.specs.Noted.{note_of_clear, taken_by};
 ghost use Rattle.vm_exception.specs.Sources.{source_of};
 ghost use Rattle.vm_exception.specs.declared.note.Note.TheVariants.{Nothing, Page};
-ghost use Rattle.vm_state.specs.Initiate.{initiate};
 ghost use Rattle.vm_state.specs.Interrupts.{due, interrupt_of};
 ghost use Rattle.vm_state.specs.State.{HasPlace, state_of};
-ghost use Rattle.vm_state.specs.Step.{Fault, clear_met, counted, faulted, interrupted, stopped};
+ghost use Rattle.vm_state.specs.Step.{Fault, clear_met, counted, faulted, stopped};
 ghost use Rattle.vm_state.specs.Stops.{PastMemory};
-ghost use Rattle.vm_stepping.specs.Made.{Made, steps_in};
+ghost use Rattle.vm_stepping.specs.Made.{Made, steps_in, underway};
+ghost use Rattle.vm_exception.specs.Made.{interrupted_by};
 
 use crate::Counts;
 use vax_hw::Hardware;
@@ -32,7 +32,9 @@ pub fn fault<H: Hardware, T: Port>(
     requires stands { StandsFor (H.machine machine.old).memory s.old g.old }
     requires proper { IsProper e }
     requires room { steps_in counts.old < 2 ^ 32 }
-    ensures made { Made T.may (faulted (guest_of (H.machine machine.old).memory g.old) e) port.old port.new (H.machine machine.old) s.old g.old counts.old (H.machine machine.new) s.new g.new counts.new }
+    ensures made { Made T.may (faulted (guest_of (H.machine machine.old).memory g.old) e)
+        (underway port.old (H.machine machine.old) s.old g.old counts.old)
+        (underway port.new (H.machine machine.new) s.new g.new counts.new) }
     ensures note { note.new ≡ taken_by (guest_of (H.machine machine.old).memory g.old) e }
 {
     *note = begin(machine, s, g, port, e);
@@ -50,7 +52,9 @@ pub fn stop_past_memory<H: Hardware, T: Port>(
 )
     requires stands { StandsFor (H.machine machine.now).memory s.now g.old }
     requires room { steps_in counts.old < 2 ^ 32 }
-    ensures made { Made T.may (stopped (guest_of (H.machine machine.now).memory g.old) PastMemory Fault) port.old port.new (H.machine machine.now) s.now g.old counts.old (H.machine machine.now) s.now g.new counts.new }
+    ensures made { Made T.may (stopped (guest_of (H.machine machine.now).memory g.old) PastMemory Fault)
+        (underway port.old (H.machine machine.now) s.now g.old counts.old)
+        (underway port.new (H.machine machine.now) s.now g.new counts.new) }
     ensures note { note.new ≡ Nothing }
 {
     let code = StopCode(StopReason::PastMemory);
@@ -79,7 +83,9 @@ pub fn meet_clear<H: Hardware, T: Port>(
 )
     requires stands { StandsFor (H.machine machine.old).memory s.old g.old }
     requires room { steps_in counts.old < 2 ^ 32 }
-    ensures made { Made T.may (clear_met (guest_of (H.machine machine.old).memory g.old) va) port.old port.new (H.machine machine.old) s.old g.old counts.old (H.machine machine.new) s.new g.new counts.new }
+    ensures made { Made T.may (clear_met (guest_of (H.machine machine.old).memory g.old) va)
+        (underway port.old (H.machine machine.old) s.old g.old counts.old)
+        (underway port.new (H.machine machine.new) s.new g.new counts.new) }
     ensures note { note.new ≡ note_of_clear (guest_of (H.machine machine.old).memory g.old) va }
 {
     if g.modify_faults {
@@ -104,7 +110,9 @@ pub fn take_interrupt<H: Hardware, T: Port>(
     requires stands { StandsFor (H.machine machine.old).memory s.old g.old }
     requires due { due (state_of g.old) ≡ Some (source_of source) }
     requires room { steps_in counts.old < 2 ^ 32 }
-    ensures made { Made T.may (interrupted (guest_of (H.machine machine.old).memory g.old) (source_of source) (initiate (guest_of (H.machine machine.old).memory g.old) (interrupt_of (source_of source)))) port.old port.new (H.machine machine.old) s.old g.old counts.old (H.machine machine.new) s.new g.new counts.new }
+    ensures made { Made T.may (interrupted_by (guest_of (H.machine machine.old).memory g.old) (source_of source))
+        (underway port.old (H.machine machine.old) s.old g.old counts.old)
+        (underway port.new (H.machine machine.new) s.new g.new counts.new) }
     ensures note { note.new ≡ taken_by (guest_of (H.machine machine.old).memory g.old) (interrupt_of (source_of source)) }
 {
     *note = interrupt(machine, s, g, port, source);

@@ -2,8 +2,9 @@ ghost use Rattle.std.specs.Prelude.{◌≡◌, ◌<◌, ◌^◌, true};
 ghost use Rattle.vax_table.specs.Interaction.{Test};
 ghost use Rattle.vax_table.specs.Tries.{Stopped};
 ghost use Rattle.vax_table.specs.Troubles.{intent_of};
+ghost use Rattle.vm_exception.specs.Standing.{standing};
 ghost use Rattle.vm_stepping.specs.Guarded.{CanAllow, ExitIsMet};
-ghost use Rattle.vm_exception.specs.Noted.{note_by_try, note_of_instruction};
+ghost use Rattle.vm_exception.specs.Noted.{note_of_instruction};
 ghost use Rattle.vm_exception.specs.Initiated.{IsProper};
 ghost use Rattle.vm_simulation_laws.specs.Runs.{Reaches};
 ghost use Rattle.vm_shadow.specs.StandsFor.{StandsFor};
@@ -13,15 +14,15 @@ ghost use Rattle.vm_simulation_laws.specs.Loaded.{guest_try};
 ghost use Rattle.vm_state.specs.Partition.{guest_of};
 ghost use Rattle.vm_state.specs.Sensed.{refused_as};
 ghost use Rattle.vm_stepping.specs.Advances.{StepsOrRefills};
-ghost use Rattle.vm_stepping.specs.Made.{IsMet, steps_in};
-ghost use Rattle.vm_stepping.specs.Noted.{NotesMet};
+ghost use Rattle.vm_stepping.specs.Made.{IsMet, steps_in, underway};
+ghost use Rattle.vm_stepping.specs.Noted.{NotesMet, note_here};
 ghost use Rattle.vm_stepping.specs.Pays.{PaysFor};
 ghost use Rattle.vm_simulation_laws.specs.Touched.{AreFilled, touches_now};
 
 use crate::Counts;
 use crate::guarded::{is_clear, run_guarded};
 use crate::made::{fault, meet_clear};
-use crate::missing::meet_missing;
+use crate::missing::{Missing, meet_missing};
 use crate::sensing::sense;
 use vax_arch::Intent;
 use vax_hw::{Exit, Hardware};
@@ -66,9 +67,10 @@ fn refuse<H: Hardware, T: Port>(
     requires room { steps_in counts.old < 2 ^ 32 }
     requires refused { guest_try (guest_of (H.machine machine.old).memory g.old) ≡ Stopped (Test refusal) }
     requires filled { AreFilled s.old (touches_now (guest_of (H.machine machine.old).memory g.old)).found }
-    ensures met { IsMet T.may true port.old port.new (H.machine machine.old) s.old g.old counts.old (H.machine machine.new) s.new g.new counts.new }
-    ensures pays { PaysFor true 0 (H.machine machine.old) s.old g.old (H.machine machine.new) s.new }
-    ensures note { note.new ≡ note_by_try (guest_of (H.machine machine.old).memory g.old) (guest_try (guest_of (H.machine machine.old).memory g.old)) }
+    ensures met { IsMet T.may true (underway port.old (H.machine machine.old) s.old g.old counts.old)
+        (underway port.new (H.machine machine.new) s.new g.new counts.new) }
+    ensures pays { PaysFor true 0 (standing (H.machine machine.old) s.old g.old) (H.machine machine.new) s.new }
+    ensures note { note.new ≡ note_here (guest_of (H.machine machine.old).memory g.old) }
 {
     fault(machine, s, g, port, counts, note, refused_as(refusal));
 }
@@ -88,9 +90,10 @@ fn meet_told<H: Hardware, T: Port>(
     requires room { steps_in counts.old < 2 ^ 32 }
     requires told { ExitIsMet exit.now (H.machine machine.old).memory s.old g.old }
     requires reaches { Reaches exit.now (H.machine machine.old).memory s.old g.old }
-    ensures met { IsMet T.may result port.old port.new (H.machine machine.old) s.old g.old counts.old (H.machine machine.new) s.new g.new counts.new }
-    ensures pays { PaysFor result (missed_by exit.now) (H.machine machine.old) s.old g.old (H.machine machine.new) s.new }
-    ensures note { NotesMet result (note_by_try (guest_of (H.machine machine.old).memory g.old) (guest_try (guest_of (H.machine machine.old).memory g.old))) note.new }
+    ensures met { IsMet T.may result (underway port.old (H.machine machine.old) s.old g.old counts.old)
+        (underway port.new (H.machine machine.new) s.new g.new counts.new) }
+    ensures pays { PaysFor result (missed_by exit.now) (standing (H.machine machine.old) s.old g.old) (H.machine machine.new) s.new }
+    ensures note { NotesMet result (note_here (guest_of (H.machine machine.old).memory g.old)) note.new }
 {
     match exit {
         Exit::NotValid { va, write } => meet_missing(
@@ -100,8 +103,10 @@ fn meet_told<H: Hardware, T: Port>(
             port,
             counts,
             note,
-            *va,
-            intent_of(*write),
+            Missing {
+                va: *va,
+                intent: intent_of(*write),
+            },
         ),
         Exit::Denied { va, write } => meet_missing(
             machine,
@@ -110,8 +115,10 @@ fn meet_told<H: Hardware, T: Port>(
             port,
             counts,
             note,
-            *va,
-            intent_of(*write),
+            Missing {
+                va: *va,
+                intent: intent_of(*write),
+            },
         ),
         Exit::Modify { va } => {
             meet_clear(machine, s, g, port, counts, note, *va);
@@ -141,8 +148,9 @@ fn run_alone<H: Hardware, T: Port>(
     requires stands { StandsFor (H.machine machine.old).memory s.old g.old }
     requires room { steps_in counts.old < 2 ^ 32 }
     requires written { CanAllow va (H.machine machine.old) s.old g.old }
-    ensures is { StepsOrRefills T.may result port.old port.new (H.machine machine.old) s.old g.old counts.old (H.machine machine.new) s.new g.new counts.new }
-    ensures pays { PaysFor result 0 (H.machine machine.old) s.old g.old (H.machine machine.new) s.new }
+    ensures is { StepsOrRefills T.may result (underway port.old (H.machine machine.old) s.old g.old counts.old)
+        (underway port.new (H.machine machine.new) s.new g.new counts.new) }
+    ensures pays { PaysFor result 0 (standing (H.machine machine.old) s.old g.old) (H.machine machine.new) s.new }
     ensures note { NotesMet result (note_of_instruction (guest_of (H.machine machine.old).memory g.old)) note.new }
 {
     let ran = run_guarded(machine, s, g, va);
@@ -175,8 +183,9 @@ pub fn meet<H: Hardware, T: Port>(
     requires room { steps_in counts.old < 2 ^ 32 }
     requires meets { Meets exit.now (H.machine machine.old).memory s.old g.old }
     requires reaches { Reaches exit.now (H.machine machine.old).memory s.old g.old }
-    ensures is { StepsOrRefills T.may result port.old port.new (H.machine machine.old) s.old g.old counts.old (H.machine machine.new) s.new g.new counts.new }
-    ensures pays { PaysFor result (missed_by exit.now) (H.machine machine.old) s.old g.old (H.machine machine.new) s.new }
+    ensures is { StepsOrRefills T.may result (underway port.old (H.machine machine.old) s.old g.old counts.old)
+        (underway port.new (H.machine machine.new) s.new g.new counts.new) }
+    ensures pays { PaysFor result (missed_by exit.now) (standing (H.machine machine.old) s.old g.old) (H.machine machine.new) s.new }
     ensures note { NotesMet result (note_of_instruction (guest_of (H.machine machine.old).memory g.old)) note.new }
 {
     if let Exit::Modify { va } = exit {

@@ -2,12 +2,11 @@ ghost use Rattle.std.specs.Prelude.{◌≡◌, ◌+◌, ◌<◌, ◌^◌, length
 ghost use Rattle.vm_shadow.specs.StandsFor.{StandsFor};
 ghost use Rattle.vm_simulation_laws.specs.Laws.{IsTrapped};
 ghost use Rattle.vm_state.specs.Partition.{guest_of};
-ghost use Rattle.vm_exception.specs.Noted.{note_by_try};
-ghost use Rattle.vm_simulation_laws.specs.Loaded.{guest_try};
-ghost use Rattle.vm_stepping.specs.Noted.{NotesMet};
-ghost use Rattle.vm_stepping.specs.Made.{IsMet, steps_in};
+ghost use Rattle.vm_stepping.specs.Noted.{NotesMet, note_here};
+ghost use Rattle.vm_stepping.specs.Made.{IsMet, steps_in, underway};
 ghost use Rattle.vm_stepping.specs.Pays.{PaysFor};
 ghost use Rattle.vm_simulation_laws.specs.Touched.{AreFilled, touches_now};
+ghost use Rattle.vm_exception.specs.Standing.{standing};
 
 use crate::Counts;
 use crate::made::{fault, page_note};
@@ -43,9 +42,10 @@ pub fn sense<H: Hardware, T: Port>(
     requires room { steps_in counts.old < 2 ^ 32 }
     requires trapped { IsTrapped t.now (H.machine machine.old).memory s.old g.old }
     requires filled { AreFilled s.old (touches_now (guest_of (H.machine machine.old).memory g.old)).found }
-    ensures met { IsMet T.may result port.old port.new (H.machine machine.old) s.old g.old counts.old (H.machine machine.new) s.new g.new counts.new }
-    ensures pays { PaysFor result 0 (H.machine machine.old) s.old g.old (H.machine machine.new) s.new }
-    ensures note { NotesMet result (note_by_try (guest_of (H.machine machine.old).memory g.old) (guest_try (guest_of (H.machine machine.old).memory g.old))) note.new }
+    ensures met { IsMet T.may result (underway port.old (H.machine machine.old) s.old g.old counts.old)
+        (underway port.new (H.machine machine.new) s.new g.new counts.new) }
+    ensures pays { PaysFor result 0 (standing (H.machine machine.old) s.old g.old) (H.machine machine.new) s.new }
+    ensures note { NotesMet result (note_here (guest_of (H.machine machine.old).memory g.old)) note.new }
 {
     have_registers(&g.r, t);
     *note = Note::Nothing;

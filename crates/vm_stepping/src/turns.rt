@@ -8,7 +8,7 @@ ghost use Rattle.vm_state.specs.Partition.{guest_of};
 ghost use Rattle.vm_state.specs.State.{state_of};
 ghost use Rattle.vm_state.specs.Touches.{touching_steps};
 ghost use Rattle.vm_stepping.specs.Advances.{Advances, Idles, IsBegun, Proceeds, to_do};
-ghost use Rattle.vm_stepping.specs.Made.{steps_in};
+ghost use Rattle.vm_stepping.specs.Made.{steps_in, underway};
 ghost use Rattle.vm_stepping.specs.Noted.{NotesOne};
 ghost use Rattle.vm_stepping.specs.Pays.{PaysOn};
 
@@ -68,7 +68,9 @@ fn run_on<H: Hardware, T: Port>(
     requires some { 1 ≤ left }
     requires quiet { IsQuiet 1 (state_of g.old) }
     requires room { steps_in counts.old + left < 2 ^ 32 }
-    ensures proceeds { Proceeds T.may (record { steps = left; counted = true }) result port.old port.new (H.machine machine.old) s.old g.old counts.old (H.machine machine.new) s.new g.new counts.new }
+    ensures proceeds { Proceeds T.may (record { steps = left; counted = true }) result
+        (underway port.old (H.machine machine.old) s.old g.old counts.old)
+        (underway port.new (H.machine machine.new) s.new g.new counts.new) }
     ensures pays { PaysOn (record { steps = left; counted = true }) result (H.machine machine.old) s.old g.old (H.machine machine.new) s.new g.new }
     ensures falls { to_do result s.new < to_do (record { steps = left; counted = true }) s.old }
     ensures note { NotesOne (record { steps = left; counted = true }) result (H.machine machine.old) g.old (H.machine machine.new) g.new note.new }
@@ -131,7 +133,9 @@ fn begin_step<H: Hardware, T: Port>(
     requires stands { StandsFor (H.machine machine.old).memory s.old g.old }
     requires some { 1 ≤ left }
     requires room { steps_in counts.old + left < 2 ^ 32 }
-    ensures proceeds { Proceeds T.may (record { steps = left; counted = false }) result port.old port.new (H.machine machine.old) s.old g.old counts.old (H.machine machine.new) s.new g.new counts.new }
+    ensures proceeds { Proceeds T.may (record { steps = left; counted = false }) result
+        (underway port.old (H.machine machine.old) s.old g.old counts.old)
+        (underway port.new (H.machine machine.new) s.new g.new counts.new) }
     ensures pays { PaysOn (record { steps = left; counted = false }) result (H.machine machine.old) s.old g.old (H.machine machine.new) s.new g.new }
     ensures falls { to_do result s.new < to_do (record { steps = left; counted = false }) s.old }
     ensures note { NotesOne (record { steps = left; counted = false }) result (H.machine machine.old) g.old (H.machine machine.new) g.new note.new }
@@ -169,7 +173,8 @@ fn proceed<H: Hardware, T: Port>(
     requires some { 1 ≤ left.steps }
     requires begun { IsBegun left g.old }
     requires room { steps_in counts.old + left.steps < 2 ^ 32 }
-    ensures proceeds { Proceeds T.may left result port.old port.new (H.machine machine.old) s.old g.old counts.old (H.machine machine.new) s.new g.new counts.new }
+    ensures proceeds { Proceeds T.may left result (underway port.old (H.machine machine.old) s.old g.old counts.old)
+        (underway port.new (H.machine machine.new) s.new g.new counts.new) }
     ensures pays { PaysOn left result (H.machine machine.old) s.old g.old (H.machine machine.new) s.new g.new }
     ensures falls { to_do result s.new < to_do left s.old }
     ensures note { NotesOne left result (H.machine machine.old) g.old (H.machine machine.new) g.new note.new }

@@ -91,7 +91,7 @@ column_text column = if column == 0 then [] else (codes "column " ++ decimal col
 abbrev pub hint_of : Status → Told → List ℕ
 hint_of answers.Words told = HELP.now
 hint_of answers.ShelfFault told = line_if (codes "this file cannot be read, or is a drive: ") told.unread
-hint_of (answers.Config fault) told = line_if (codes "the rule: ") (rule_text fault.rule) ++ line_if (codes "the table: ") (numbered_table (table_key fault.rule) fault.place)
+hint_of (answers.Config fault) told = (line_if (codes "the rule: ") (rule_text fault.rule) ++ line_if (codes "the table: ") (numbered_table (table_key fault.rule) fault.place)) ++ line_if (codes "the key: ") told.key
 hint_of (answers.Script fault) told = line_if (codes "the line is: ") told.line ++ line_if (column_text told.column) (script_advice fault.kind)
 hint_of (answers.Asm fault) told = line_if (codes "the line is: ") told.line ++ line_if (column_text told.column) (source_advice fault.kind)
 hint_of (answers.Audit fault) told = line_if (codes "the line is: ") told.line

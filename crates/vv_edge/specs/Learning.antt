@@ -8,10 +8,12 @@ use Rattle.vv_edge.specs.Columns.{script_column, source_column}
 use Rattle.vv_edge.specs.declared.telling.Note.{Note}
 use Rattle.vv_edge.specs.declared.telling.Note.TheVariants.{Wanted}
 use Rattle.vvmm_files.specs.declared.status.Status.{Status}
+use Rattle.vvmm_files.specs.declared.status.Status.TheVariants as answers
 use Rattle.vvmm_files.specs.declared.status.Status.TheVariants.{Script, Audit, Asm, VolumeSize, DeviceFault}
 
 -- the place among the words of the file that says more about an answer, if one does
 abbrev pub told_word : Status → Option ℕ
+told_word (answers.Config fault) = Some 1
 told_word (Script fault) = Some 2
 told_word (Audit fault) = Some 2
 told_word (Asm fault) = Some 1

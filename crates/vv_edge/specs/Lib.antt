@@ -6,6 +6,8 @@ pub mod Asked
 pub mod Ends
 pub mod Hints
 pub mod Columns
+pub mod Broken
 pub mod Learning
 pub mod ShownAnswers
 pub mod ShownColumns
+pub mod ShownBroken

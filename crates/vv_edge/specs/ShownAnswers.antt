@@ -28,7 +28,7 @@ no_room_for_words = refl
 
 -- a drive is a link, and a line and a drive failed
 abbrev pub told : Told
-told = record { flawed = Some (notes.Flawed 3 Link) ∷ []; wanted = Some (notes.Wanted 3 2); lines = Some (notes.Audit 4) ∷ []; drives = Some (notes.Drive (record { drive = 3; stored = 1; blocks = 2 })) ∷ []; unread = codes "public"; line = codes "HALTS"; column = 0 }
+told = record { flawed = Some (notes.Flawed 3 Link) ∷ []; wanted = Some (notes.Wanted 3 2); lines = Some (notes.Audit 4) ∷ []; drives = Some (notes.Drive (record { drive = 3; stored = 1; blocks = 2 })) ∷ []; unread = codes "public"; key = codes "version = 3"; line = codes "HALTS"; column = 0 }
 
 nothing_to_tell : end_text true Done told ≡ []
 nothing_to_tell = refl
@@ -51,7 +51,7 @@ a_file_that_cannot_be_read = refl
 a_line_that_is_refused : hint_of (Asm (record { line = 2; kind = BadLine })) told ≡ codes "vvmm: the line is: HALTS\nvvmm: no instruction, directive or operand is so, or a number does not fit\n"
 a_line_that_is_refused = refl
 
-a_rule_that_is_broken : hint_of (ConfigRefused (record { rule = 2; place = 0 })) told ≡ codes "vvmm: the rule: the version is 1 or 2\n"
+a_rule_that_is_broken : hint_of (ConfigRefused (record { rule = 2; place = 0 })) told ≡ codes "vvmm: the rule: the version is 1 or 2\nvvmm: the key: version = 3\n"
 a_rule_that_is_broken = refl
 
 two_files : files_named (codes "run" ∷ codes "config" ∷ codes "script" ∷ codes "6" ∷ []) ≡ codes "config" ∷ codes "script" ∷ []

@@ -23,6 +23,8 @@ pub struct Told {
     pub drives: DriveNotes,
     /// A file that couldn't be read.
     pub unread: FileName,
+    /// The key and the value that break a rule.
+    pub key: Text<168>,
     /// A line that is refused.
     pub line: Text<80>,
     /// The column where the part of it begins that is refused; 0 where that isn't known.
@@ -38,6 +40,7 @@ impl Told {
             lines: [None; 32],
             drives: [None; 16],
             unread: FileName::new(),
+            key: Text::new(),
             line: Text::new(),
             column: 0,
         }
@@ -102,14 +105,15 @@ fn numbered_table(key: &[u8], place: u32) -> Text<80>
     text
 }
 
-/// The rule that a configuration breaks, and in which table.
-fn broken(fault: &ConfigFault) -> Text<320>
-    ensures { result ≡ line_if (codes "the rule: ") (rule_text fault.now.rule) ++ line_if (codes "the table: ") (numbered_table (table_key fault.now.rule) fault.now.place) }
+/// The rule that a configuration breaks, in which table, and by which key and value.
+fn broken(fault: &ConfigFault, told: &Told) -> Text<720>
+    ensures { result ≡ (line_if (codes "the rule: ") (rule_text fault.now.rule) ++ line_if (codes "the table: ") (numbered_table (table_key fault.now.rule) fault.now.place)) ++ line_if (codes "the key: ") told.now.key }
 {
     let table = numbered_table(table_key(fault.rule), fault.place);
     let mut text = Text::new();
     text.append(line_if(b"the rule: ", rule_text(fault.rule)).bytes());
     text.append(line_if(b"the table: ", table.bytes()).bytes());
+    text.append(line_if(b"the key: ", told.key.bytes()).bytes());
     text
 }
 
@@ -161,9 +165,9 @@ fn advice(status: &Status) -> &'static [u8]
 }
 
 /// A line with its end, if it says something.
-fn line_if(before: &[u8], bytes: &[u8]) -> Text<160>
+fn line_if(before: &[u8], bytes: &[u8]) -> Text<240>
     requires before { length before.now ≤ 60 }
-    requires bytes { length bytes.now ≤ 80 }
+    requires bytes { length bytes.now ≤ 168 }
     ensures { result ≡ line_if before.now bytes.now }
 {
     let mut text = Text::new();
@@ -191,7 +195,7 @@ fn column_text(column: u64) -> Text<60>
 }
 
 /// A line that is refused, and where and why.
-fn refused(told: &Told, why: &[u8]) -> Text<320>
+fn refused(told: &Told, why: &[u8]) -> Text<480>
     requires { length why.now ≤ 80 }
     ensures { result ≡ line_if (codes "the line is: ") told.now.line ++ line_if (column_text told.now.column) why.now }
 {
@@ -232,7 +236,7 @@ pub fn hint(status: &Status, told: &Told) -> Text<8192>
             let before = b"this file cannot be read, or is a drive: ";
             text.append(line_if(before, told.unread.bytes()).bytes());
         }
-        Status::Config(fault) => text.append(broken(fault).bytes()),
+        Status::Config(fault) => text.append(broken(fault, told).bytes()),
         Status::Script(fault) => {
             text.append(refused(told, script_advice(fault.kind)).bytes());
         }

@@ -15,7 +15,9 @@ pub fn told_word(status: &Status) -> Option<usize>
 {
     match status {
         Status::Script(_) | Status::Audit(_) => Some(2),
-        Status::Asm(_) | Status::VolumeSize(_) | Status::DeviceFault(_) => Some(1),
+        Status::Config(_) | Status::Asm(_) | Status::VolumeSize(_) | Status::DeviceFault(_) => Some(
+            1,
+        ),
         _ => None,
     }
 }
@@ -101,7 +103,7 @@ fn line_of_text(text: &[u8], line: u32) -> &[u8]
 }
 
 /// Bytes as far as there is room, with a point for each that doesn't print.
-fn shown_front(line: &[u8]) -> Text<80>
+pub fn shown_front(line: &[u8]) -> Text<80>
     ensures { result ≡ shown_front line.now }
 {
     let mut text = Text::new();

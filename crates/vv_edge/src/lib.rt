@@ -5,6 +5,7 @@
 #![tactic(auto)]
 
 mod asked;
+mod broken;
 mod columns;
 mod device_file;
 mod ending;
@@ -25,6 +26,7 @@ mod ticker;
 mod typed;
 
 pub use asked::{text_asked, words_status};
+pub use broken::broken_key;
 pub use ending::conclude;
 pub use file_drive::FileDrive;
 pub use file_line::FileLine;

@@ -2,11 +2,11 @@
 use Rattle.std.proofs.Common.{ℕ, suc, ◌≡◌, ◌<◌, ◌≤◌, ◌+◌, ◌-◌, List, [], ◌∷◌, ◌++◌, length, map, take, drop, min, get_or, false, refl, sym, ◌∙◌, ap, add-one, arith}
 use Rattle.std.specs.declared.option.Option.TheVariants.{Some}
 use Rattle.std.specs.declared.result.Result.TheVariants.{Ok}
-use Rattle.std.proofs.lemmas.List.{drop-map, drop_min, take_all, take_min, length-take, length-drop, take-append-le}
+use Rattle.std.proofs.lemmas.List.{drop-map, map-append, drop_min, take_all, take_min, length-take, length-drop, take-append-le}
 use Rattle.std.proofs.Math.Seq.{drop-cons}
 use Rattle.vv_io.specs.Causes.{saturated_successor}
 use Rattle.vv_io.specs.Keys.{Takes, given_of}
-use Rattle.vv_io.specs.Lines.{ReadsBack}
+use Rattle.vv_io.specs.Lines.{ReadsBack, Seen}
 use Rattle.vv_io.specs.Memory.{MemoryKeyboard, after_next, is_next_named, keys_of}
 
 -- the next of the lines
@@ -18,14 +18,20 @@ next_of f lines given line within read =
     drop-map f given lines ∙ front ∙ cc
 
 -- the keyboard after a call that gave a line
-pub after_line : (coming rest : List (List ℕ)) (line failing : List ℕ) (calls calls' faults : ℕ) (now : MemoryKeyboard) → record { coming = coming; failing = failing; calls = calls; faults = faults } ≡ now → coming ≡ line ∷ rest → calls' ≡ saturated_successor calls → is_next_named failing calls ≡ false
-    → record { coming = rest; failing = failing; calls = calls'; faults = faults } ≡ after_next now
-after_line coming rest line failing calls calls' faults now same next counts passes = rw (← same, next, counts, passes) refl
+pub after_line : (coming rest : List (List ℕ)) (line failing : List ℕ) (calls calls' faults : ℕ) (outputs outputs' : List Seen) (out : Seen) (now : MemoryKeyboard)
+    → record { coming = coming; failing = failing; calls = calls; faults = faults; outputs = outputs } ≡ now → coming ≡ line ∷ rest → calls' ≡ saturated_successor calls → is_next_named failing calls ≡ false → outputs' ≡ outputs ++ out ∷ []
+    → record { coming = rest; failing = failing; calls = calls'; faults = faults; outputs = outputs' } ≡ after_next out now
+after_line coming rest line failing calls calls' faults outputs outputs' out now same next counts passes noted = rw (← same, next, counts, passes, noted) refl
 
 -- what such a call says
-pub takes_line : {E : Type 0} (coming rest : List (List ℕ)) (line given failing : List ℕ) (calls faults : ℕ) (now : MemoryKeyboard) → record { coming = coming; failing = failing; calls = calls; faults = faults } ≡ now → coming ≡ line ∷ rest → given ≡ given_of line
-    → Takes {E = E} (keys_of now) (record { coming = Some rest; faults = faults }) (Ok (Some given))
-takes_line coming rest line given failing calls faults now same next front = rw (← same, next) (record { gives = (front, refl); cause = record { later = omega arith; kept = refl; failed = tt } })
+pub takes_line : {E : Type 0} (coming rest : List (List ℕ)) (line given failing : List ℕ) (calls faults : ℕ) (outputs outputs' : List Seen) (out : Seen) (now : MemoryKeyboard)
+    → record { coming = coming; failing = failing; calls = calls; faults = faults; outputs = outputs } ≡ now → coming ≡ line ∷ rest → given ≡ given_of line → outputs' ≡ outputs ++ out ∷ []
+    → Takes {E = E} out (keys_of now) (record { coming = Some rest; faults = faults; outputs = outputs' }) (Ok (Some given))
+takes_line coming rest line given failing calls faults outputs outputs' out now same next front noted = rw (← same, next) (record { gives = (front, refl); cause = record { later = omega arith; kept = refl; failed = tt }; noted = noted })
+
+-- one value more was noted
+pub noted_more : {V : Type 0} (f : V → Seen) (before after : List V) (value : V) → after ≡ before ++ value ∷ [] → map f after ≡ map f before ++ f value ∷ []
+noted_more f before after value noted = ap (map f) noted ∙ map-append f before (value ∷ [])
 
 -- the first bytes of a line, put into an empty text
 pub first_of : (begun new line : List ℕ) (n : ℕ) → begun ≡ [] → n ≡ min (length line) 1024 → new ≡ begun ++ take n line → new ≡ given_of line

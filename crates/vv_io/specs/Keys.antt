@@ -5,11 +5,14 @@ use Rattle.std.specs.declared.option.Option.TheVariants.{None, Some}
 use Rattle.std.specs.declared.result.Result.{Result}
 use Rattle.std.specs.declared.result.Result.TheVariants.{Ok, Err}
 use Rattle.vv_io.specs.Causes.{HasCause}
+use Rattle.vv_io.specs.Lines.{Seen}
 
--- A keyboard as the outside knows it: the lines that are still to come, where they are known, and its count of faults.
+-- A keyboard as the outside knows it: the lines that are still to come, where they are known, its count of faults, and what was on
+-- the output at each call.
 pub record Keys : Type 0 where
   pub coming : Option (List (List ℕ))
   pub faults : ℕ
+  pub outputs : List Seen
 
 -- the first 1,024 bytes of a line are given, or all of a shorter one
 abbrev pub given_of : List ℕ → List ℕ
@@ -24,10 +27,11 @@ Gives (Some []) after (Ok (Some line)) = ⊥
 Gives (Some (next ∷ lines)) after (Ok None) = ⊥
 Gives (Some (next ∷ lines)) after (Ok (Some line)) = (line ≡ given_of next) × (after ≡ Some lines)
 
--- one call
-pub record Takes {E : Type 0} (before after : Keys) (result : Result (Option (List ℕ)) E) : Type 0 where
+-- one call, while this was on the output
+pub record Takes {E : Type 0} (out : Seen) (before after : Keys) (result : Result (Option (List ℕ)) E) : Type 0 where
   pub gives : Gives before.coming after.coming result
   pub cause : HasCause before.faults after.faults result
+  pub noted : after.outputs ≡ before.outputs ++ out ∷ []
 
 -- the first of the lines were taken, one after another, and were given so; the rest is still to come
 abbrev pub Took : List (List ℕ) → Option (List (List ℕ)) → Option (List (List ℕ)) → Type 0

@@ -109,21 +109,23 @@ after_set drive block bytes = record (after_call drive) { blocks = if is_next_na
 abbrev pub kept_of : MemoryDrive → SeenDrive
 kept_of drive = record { size = length drive.blocks; blocks = Some drive.blocks; faults = drive.faults }
 
--- a keyboard: the lines that are still to come
+-- a keyboard: the lines that are still to come, and what was on the output at each call
 pub record MemoryKeyboard : Type 0 where
   pub coming : List (List ℕ)
   pub failing : List ℕ
   pub calls : ℕ
   pub faults : ℕ
+  pub outputs : List Seen
 
--- the keyboard after the next call, which takes a line where one comes and it doesn't fail
-abbrev pub after_next : MemoryKeyboard → MemoryKeyboard
-after_next keyboard = record keyboard {
+-- the keyboard after the next call, which takes a line where one comes and it doesn't fail, while this was on the output
+abbrev pub after_next : Seen → MemoryKeyboard → MemoryKeyboard
+after_next out keyboard = record keyboard {
   coming = if is_next_named keyboard.failing keyboard.calls then keyboard.coming else drop 1 keyboard.coming;
   calls = saturated_successor keyboard.calls;
   faults = if is_next_named keyboard.failing keyboard.calls then saturated_successor keyboard.faults else keyboard.faults;
+  outputs = keyboard.outputs ++ out ∷ [];
 }
 
 -- what the outside knows of it
 abbrev pub keys_of : MemoryKeyboard → Keys
-keys_of keyboard = record { coming = Some keyboard.coming; faults = keyboard.faults }
+keys_of keyboard = record { coming = Some keyboard.coming; faults = keyboard.faults; outputs = keyboard.outputs }

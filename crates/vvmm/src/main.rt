@@ -6,11 +6,11 @@ use std::io::Input;
 use std::process::ExitCode;
 use std::{env, io};
 use vax_cpu::Cpu;
-use vv_base::NoMemory;
+use vv_base::{NoMemory, Text};
 use vv_edge::{
-    FileLine, FileShelf, InputKeys, Opening, Streams, Ticker, Told, audit_line, conclude,
-    hold_standard, line_notes, refused_column, refused_line, text_asked, told_word, wanted_drive,
-    words_status,
+    FileLine, FileShelf, InputKeys, Opening, Streams, Ticker, Told, audit_line, broken_key,
+    conclude, hold_standard, line_notes, refused_column, refused_line, text_asked, told_word,
+    wanted_drive, words_status,
 };
 use vv_io::{Drive, LineList};
 pub use vvmm_call::vvmm_run;
@@ -51,6 +51,7 @@ fn told_of(
         lines: line_notes(lines, audit_line(alloc, text, status).unwrap_or(None)),
         drives: opening.failed.get(),
         unread: shelf.unread.copied(),
+        key: broken_key(alloc, text, status).unwrap_or(Text::new()),
         line: refused_line(text, status),
         column: refused_column(text, status),
     }

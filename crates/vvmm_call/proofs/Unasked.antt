@@ -80,9 +80,8 @@ lives x most lived o p out out' r = record {
   made = r.made;
   cut = r.cut;
   told = r.told;
-  echoed = r.echoed;
   shown = r.shown;
-  exact = r.exact;
+  asked = r.asked;
 }
 
 lives_run : (c : Config) (images : List (List ℕ)) (most : ℕ) (r : Result Lived PowerFault) (o : RunOutside) (p : Operator) (out out' : Seen) → LivesRun MissesArePaid c images most r o p out out' → LivesRun NothingMore c images most r o p out out'

@@ -42,7 +42,7 @@ fn lived_status<O: Sink>(lived: Result<Lived, PowerFault>, out: &mut O) -> Statu
 
 /// `live`: fetches the configuration and the images, makes rounds as their lines are typed, and shows each one's terminals on
 /// `out`; then its summary.
-pub fn live<H: Hardware, S: Shelf, O: Sink, K: Keyboard, E: Sink, L: Lines>(
+pub fn live<H: Hardware, S: Shelf, O: Sink, K: Keyboard<O>, E: Sink, L: Lines>(
     alloc: Global,
     order: LiveOrder,
     shelf: &mut S,

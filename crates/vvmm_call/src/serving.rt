@@ -50,7 +50,7 @@ fn synced_status(answer: Status, failed: Option<Device>) -> Status
 }
 
 /// Does what the words say, and then syncs all lines and drives; a device that fails in that is answered as one that failed.
-pub fn serve<H: Hardware, S: Shelf, O: Sink, K: Keyboard, E: Sink, P: Progress, L: Lines>(
+pub fn serve<H: Hardware, S: Shelf, O: Sink, K: Keyboard<O>, E: Sink, P: Progress, L: Lines>(
     alloc: Global,
     words: &[String],
     shelf: &mut S,

@@ -169,7 +169,7 @@ fn status_of(name: FileName, answer: Answer) -> Status
 }
 
 /// Does what the words say.
-fn perform<H: Hardware, S: Shelf, O: Sink, K: Keyboard, E: Sink, P: Progress, L: Lines>(
+fn perform<H: Hardware, S: Shelf, O: Sink, K: Keyboard<O>, E: Sink, P: Progress, L: Lines>(
     alloc: Global,
     words: &[String],
     shelf: &mut S,
@@ -229,7 +229,7 @@ fn perform<H: Hardware, S: Shelf, O: Sink, K: Keyboard, E: Sink, P: Progress, L:
 /// command shows of a file, is put on `out`. The machine's memory and counts may hold anything. Only `live` asks the keyboard for
 /// lines, and reports on `errors` which of them say no event. After each round of any other run `progress` gets the number of
 /// rounds made.
-pub fn vvmm_run<H: Hardware, S: Shelf, O: Sink, K: Keyboard, E: Sink, P: Progress, L: Lines>(
+pub fn vvmm_run<H: Hardware, S: Shelf, O: Sink, K: Keyboard<O>, E: Sink, P: Progress, L: Lines>(
     alloc: Global,
     words: &[String],
     shelf: &mut S,

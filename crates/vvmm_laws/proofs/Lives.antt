@@ -166,7 +166,7 @@ module _ (a : LiveWords) (status : Status) (o : Outside) (p : Operator) (q : (Pl
       by : (result : Result Lived PowerFault) → (LivesRun MissesArePaid) q.config q.images a.rounds result (run_outside o) p o.out q.shown → AnswersLive result status q.shown o.out' → IsLived p status
       by (Ok lived) (x, same, held, lives) closes =
           let failed : lived.ran.failed ≡ None = none_failed _ _ _ lived.ran (run_outside o) lives.makes.makes lines drives in
-          subst (λ (s : Status). IsLived p s) (sym closes.is) (closed lived.ran.failed lived.is_cut closes.cut lived.typing a.rounds lives.typed p lives.echoed _ o.out q.shown o.out' failed lives.shown closes.closes kept lives.ends keys)
+          subst (λ (s : Status). IsLived p s) (sym closes.is) (closed lived.ran.failed lived.is_cut closes.cut lived.typing a.rounds lives.typed p lives.shown.echoed _ o.out q.shown o.out' failed lives.shown.shown closes.closes kept lives.ends keys)
       by (Err fault) (down, untyped, same) (answer, rest) = subst (λ (s : Status). IsLived p s) (sym answer) (down_lived p fault (down_served q.config q.images (run_outside o) fault down fits drives_fit could))
 
   lives_image : (g : ℕ) → first_misfit q.config.guests q.images ≡ Some g → IsImageOf g status

@@ -6,8 +6,8 @@ use Rattle.vax_arch.specs.Fields.{current_of}
 use Rattle.vax_arch.specs.declared.mode.Intent.{Intent}
 use Rattle.vax_arch.specs.declared.mode.Intent.TheVariants as intents
 use Rattle.vax_hw.specs.Machine.{Machine, is_real_bit_clear, machine_space, machine_tables, machine_write_place, place_for, psw_of, retire, seen_psl}
-use Rattle.vax_hw.specs.Real.{retired_by_try, in_kernel, carried_out, machine_step, retired_by_probe, retired_with}
-use Rattle.vax_hw.specs.RealTables.{access_judged, both_judged, place_in, place_or_end, real_probe}
+use Rattle.vax_hw.specs.Real.{retired_by_try, in_kernel, carried_out, machine_step, retired_by_probe, retired_with, real_probe}
+use Rattle.vax_hw.specs.RealTables.{access_judged, both_judged, place_in, place_or_end}
 use Rattle.vax_hw.specs.declared.world.World.{World}
 use Rattle.vvmm_laws.specs.Machine.{AreAlike, DependsOnWhatItReads, HasTheSame}
 use Rattle.vvmm_laws.specs.Reads.{judged_for, place_if, places_judged, places_read, places_walked, read_for, read_for_all, world_instruction}
@@ -97,7 +97,7 @@ probe_alike m other opcode i o (Some is_accessible) = retired_alike m other opco
 probe_alike m other opcode i o None = refl
 
 judges_same : (m other : Machine) (i : Intent) (o : Operands) → HasTheSame (judged_for m (Probes i o)) m.memory other.memory →
-    real_probe other.memory (machine_tables m.world) m.world.psl.0 i (long_of o 0) (long_of o 1) (long_of o 2) ≡ real_probe m.memory (machine_tables m.world) m.world.psl.0 i (long_of o 0) (long_of o 1) (long_of o 2)
+    real_probe other.memory m.world i (long_of o 0) (long_of o 1) (long_of o 2) ≡ real_probe m.memory m.world i (long_of o 0) (long_of o 1) (long_of o 2)
 judges_same m other i o h =
     let t = machine_tables m.world in
     let mode = probe_mode m.world.psl.0 (long_of o 0) in
@@ -116,7 +116,7 @@ act_alike m other opcode (Plain e) h places = retired_alike m other opcode e (pl
 act_alike m other opcode (Traps t) h places = refl
 act_alike m other opcode (Probes i o) h places =
     subst (λ (x : Option Bool). AreAlike m (like m other) (carried_out m opcode (Probes i o)) (retired_by_probe (like m other) opcode i o x)) (sym (judges_same m other i o h))
-    (probe_alike m other opcode i o (real_probe m.memory (machine_tables m.world) m.world.psl.0 i (long_of o 0) (long_of o 1) (long_of o 2)))
+    (probe_alike m other opcode i o (real_probe m.memory m.world i (long_of o 0) (long_of o 1) (long_of o 2)))
 
 -- what a plain instruction stores it claimed
 pub stored_claimed : (m : Machine) (x : Meant) (e : Effect) → outcome (machine_space m) (world_instruction m.world) ≡ Ok x → x.act ≡ Plain e → AreAmong (bytes_of_stores e.writes) (claims (machine_space m) (world_instruction m.world))

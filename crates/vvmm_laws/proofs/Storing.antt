@@ -7,8 +7,8 @@ use Rattle.vax_arch.specs.Fields.{current_of}
 use Rattle.vax_arch.specs.declared.mode.Intent.{Intent}
 use Rattle.vax_arch.specs.declared.mode.Intent.TheVariants.{Read, Write}
 use Rattle.vax_hw.specs.Machine.{Machine, is_real_bit_clear, machine_space, machine_tables, machine_write_place, place_for, psw_of, retire}
-use Rattle.vax_hw.specs.Real.{Retired, carried_out, machine_step, retired_by_probe, retired_by_try, retired_with}
-use Rattle.vax_hw.specs.RealTables.{byte_by, place_or_end, real_probe}
+use Rattle.vax_hw.specs.Real.{Retired, carried_out, machine_step, real_probe, retired_by_probe, retired_by_try, retired_with}
+use Rattle.vax_hw.specs.RealTables.{byte_by, place_or_end}
 use Rattle.vax_hw.specs.declared.world.Exit.{Exit}
 use Rattle.vvmm_laws.specs.Machine.{ChangesWhatItReads}
 use Rattle.vvmm_laws.specs.Reads.{place_if, places_judged, places_read, places_walked, read_for_all, world_instruction}
@@ -75,7 +75,7 @@ probe_keeps m opcode o i None = tt
 act_keeps : (m : Machine) (opcode : ℕ) (act : Act) → ((e : Effect) → act ≡ Plain e → (va : ℕ) → IsIn va (bytes_of_stores e.writes) → IsIn (machine_write_place m va) (places_read m)) → KeepsElsewhere m (carried_out m opcode act)
 act_keeps m opcode (Plain e) h = effect_keeps m opcode e (h e refl)
 act_keeps m opcode (Traps t) h = tt
-act_keeps m opcode (Probes i o) h = probe_keeps m opcode o i (real_probe m.memory (machine_tables m.world) m.world.psl.0 i (long_of o 0) (long_of o 1) (long_of o 2))
+act_keeps m opcode (Probes i o) h = probe_keeps m opcode o i (real_probe m.memory m.world i (long_of o 0) (long_of o 1) (long_of o 2))
 
 marked_keeps : (m : Machine) (x : Meant) (marked : Option ℕ) → KeepsElsewhere m (carried_out m x.opcode x.act) → KeepsElsewhere m (retired_by_try m (unless_clear x marked))
 marked_keeps m x None h = h

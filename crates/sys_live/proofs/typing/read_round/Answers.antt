@@ -15,7 +15,7 @@ pub loop-lines-init : goal.loop-lines-init
 loop-lines-init g c =
     let keys = g.K.Keyboard.keys c.args.keyboard.now in
     let errors = g.E.Sink.printed c.args.errors.now in
-    record { far = subst (λ es. TypesSoFar c.args.round c.args.count.now c.args.count.now es keys keys errors errors) (sym c.new-events.ensures.items) (begins c.args.round c.args.count.now keys errors); lines = refl }
+    record { far = subst (λ es. TypesSoFar c.args.round (g.O.Sink.printed c.args.out.now) c.args.count.now c.args.count.now es keys keys errors errors) (sym c.new-events.ensures.items) (begins c.args.round (g.O.Sink.printed c.args.out.now) c.args.count.now keys errors); lines = refl }
 
 pub returns-in-Ok-None-clause-types : goal.returns-in-Ok-None-clause-types
 returns-in-Ok-None-clause-types g c =
@@ -25,8 +25,8 @@ returns-in-Ok-None-clause-types g c =
     let errors = g.E.Sink.printed c.args.errors.now in
     let errors1 = g.E.Sink.printed c.loop-lines.errors in
     let typed : TypedRound = record { events = c.loop-lines.events; typing = Over } in
-    subst (λ t. TypesRound c.args.round c.args.count.now c.loop-lines.count t (desk keys keys2 errors errors1)) (sym c.ended.ensures)
-    (is_over c.args.round c.args.count.now c.loop-lines.count typed keys keys1 keys2 errors errors1 c.loop-lines.invariant.far (subst (Takes keys1 keys2) (c.in-Ok-None.is ∙ ap Ok c.in-Ok-None.field-0-is) c.next.ensures) refl)
+    subst (λ t. TypesRound c.args.round (g.O.Sink.printed c.args.out.now) c.args.count.now c.loop-lines.count t (desk keys keys2 errors errors1)) (sym c.ended.ensures)
+    (is_over c.args.round (g.O.Sink.printed c.args.out.now) c.args.count.now c.loop-lines.count typed keys keys1 keys2 errors errors1 c.loop-lines.invariant.far (omega (arith, c.loop-lines.invariant.lines, c.loop-lines-test.true)) (subst (Takes (g.O.Sink.printed c.args.out.now) keys1 keys2) (c.in-Ok-None.is ∙ ap Ok c.in-Ok-None.field-0-is) c.next.ensures) refl)
 
 pub returns-in-Ok-None-clause-each : goal.returns-in-Ok-None-clause-each
 returns-in-Ok-None-clause-each g c =
@@ -46,8 +46,8 @@ returns-in-Err-clause-types g c =
     let errors = g.E.Sink.printed c.args.errors.now in
     let errors1 = g.E.Sink.printed c.loop-lines.errors in
     let typed : TypedRound = record { events = c.loop-lines.events; typing = Broken } in
-    subst (λ t. TypesRound c.args.round c.args.count.now c.loop-lines.count t (desk keys keys2 errors errors1)) (sym c.ended-in-Err.ensures)
-    (is_failed c.args.round c.args.count.now c.loop-lines.count typed keys keys1 keys2 errors errors1 c.in-Err.field-0 c.loop-lines.invariant.far (subst (Takes keys1 keys2) c.in-Err.is c.next.ensures) refl)
+    subst (λ t. TypesRound c.args.round (g.O.Sink.printed c.args.out.now) c.args.count.now c.loop-lines.count t (desk keys keys2 errors errors1)) (sym c.ended-in-Err.ensures)
+    (is_failed c.args.round (g.O.Sink.printed c.args.out.now) c.args.count.now c.loop-lines.count typed keys keys1 keys2 errors errors1 c.in-Err.field-0 c.loop-lines.invariant.far (omega (arith, c.loop-lines.invariant.lines, c.loop-lines-test.true)) (subst (Takes (g.O.Sink.printed c.args.out.now) keys1 keys2) c.in-Err.is c.next.ensures) refl)
 
 pub returns-in-Err-clause-each : goal.returns-in-Err-clause-each
 returns-in-Err-clause-each g c =
@@ -70,8 +70,8 @@ returns-then-is_empty-clause-types g c =
     let after = record c.loop-lines.count { lines = c.loop-lines.lines + 1 } in
     let given : c.next.result ≡ Ok (Some c.in-Ok-Some.line) = c.in-Ok-Some.is ∙ ap Ok c.in-Ok-Some.field-0-is in
     let empty : c.in-Ok-Some.line ≡ [] = sym c.bytes.ensures.value ∙ empty_line c.bytes.result.now (sym c.is_empty.ensures ∙ c.if-is_empty.true) in
-    subst (λ t. TypesRound c.args.round c.args.count.now after t (desk keys keys2 errors errors1)) (sym c.ended-then-is_empty.ensures)
-    (is_ended c.args.round c.args.count.now c.loop-lines.count after typed c.in-Ok-Some.line keys keys1 keys2 errors errors1 errors1 c.loop-lines.invariant.far empty (subst (Takes keys1 keys2) given c.next.ensures) (ap (λ n. n + 1) (sym c.loop-lines.invariant.lines)) refl refl refl)
+    subst (λ t. TypesRound c.args.round (g.O.Sink.printed c.args.out.now) c.args.count.now after t (desk keys keys2 errors errors1)) (sym c.ended-then-is_empty.ensures)
+    (is_ended c.args.round (g.O.Sink.printed c.args.out.now) c.args.count.now c.loop-lines.count after typed c.in-Ok-Some.line keys keys1 keys2 errors errors1 errors1 c.loop-lines.invariant.far (omega (arith, c.loop-lines.invariant.lines, c.loop-lines-test.true)) empty (subst (Takes (g.O.Sink.printed c.args.out.now) keys1 keys2) given c.next.ensures) (ap (λ n. n + 1) (sym c.loop-lines.invariant.lines)) refl refl refl)
 
 pub returns-then-is_empty-clause-each : goal.returns-then-is_empty-clause-each
 returns-then-is_empty-clause-each g c =
@@ -97,10 +97,10 @@ returns-then-is_err-clause-types g c =
     let failed : is_err c.take_line.result ≡ true = sym c.is_err.ensures.value ∙ c.if-is_err.true in
     let lost : (c.take_line.new.events.items ≡ c.loop-lines.events.items) × (says_event line ≡ true) = off_err c.take_line.result failed c.take_line.ensures.err in
     let untold : (errors2 ≡ errors1) × (c.take_line.new.count.is_cut ≡ c.loop-lines.count.is_cut) = off_err c.take_line.result failed c.take_line.ensures.untold in
-    let far : TypesSoFar c.args.round c.args.count.now c.loop-lines.count c.take_line.new.events.items keys keys1 errors errors1 =
-    subst (λ es. TypesSoFar c.args.round c.args.count.now c.loop-lines.count es keys keys1 errors errors1) (sym lost.0) c.loop-lines.invariant.far in
-    subst (λ t. TypesRound c.args.round c.args.count.now c.take_line.new.count t (desk keys keys2 errors errors2)) (sym c.ended-then-is_err.ensures)
-    (is_lost c.args.round c.args.count.now c.loop-lines.count c.take_line.new.count typed line keys keys1 keys2 errors errors1 errors2 far lost.1 (subst (Takes keys1 keys2) given c.next.ensures) untold.1 untold.0 refl)
+    let far : TypesSoFar c.args.round (g.O.Sink.printed c.args.out.now) c.args.count.now c.loop-lines.count c.take_line.new.events.items keys keys1 errors errors1 =
+    subst (λ es. TypesSoFar c.args.round (g.O.Sink.printed c.args.out.now) c.args.count.now c.loop-lines.count es keys keys1 errors errors1) (sym lost.0) c.loop-lines.invariant.far in
+    subst (λ t. TypesRound c.args.round (g.O.Sink.printed c.args.out.now) c.args.count.now c.take_line.new.count t (desk keys keys2 errors errors2)) (sym c.ended-then-is_err.ensures)
+    (is_lost c.args.round (g.O.Sink.printed c.args.out.now) c.args.count.now c.loop-lines.count c.take_line.new.count typed line keys keys1 keys2 errors errors1 errors2 far (omega (arith, c.loop-lines.invariant.lines, c.loop-lines-test.true)) lost.1 (subst (Takes (g.O.Sink.printed c.args.out.now) keys1 keys2) given c.next.ensures) untold.1 untold.0 refl)
 
 pub returns-then-is_err-clause-each : goal.returns-then-is_err-clause-each
 returns-then-is_err-clause-each g c =
@@ -134,7 +134,7 @@ loop-lines-preserved g c =
     let counted : c.take_line.new.count.lines ≡ c.loop-lines.count.lines + 1 = c.take_line.ensures.lines ∙ ap (λ n. n + 1) (sym c.loop-lines.invariant.lines) in
     let tells : ShowsUnlessMarked c.loop-lines.count.is_cut c.take_line.new.count.is_cut errors1 errors2 (refusal_message (c.loop-lines.count.lines + 1) line) =
     subst (λ n. ShowsUnlessMarked c.loop-lines.count.is_cut c.take_line.new.count.is_cut errors1 errors2 (refusal_message (n + 1) line)) (sym c.loop-lines.invariant.lines) (off_ok c.take_line.result went c.take_line.ensures.tells) in
-    let far = goes_on c.args.round c.args.count.now c.loop-lines.count c.take_line.new.count c.loop-lines.events.items c.take_line.new.events.items line keys keys1 keys2 errors errors1 errors2 c.loop-lines.invariant.far (full_line line some) (subst (Takes keys1 keys2) given c.next.ensures)
+    let far = goes_on c.args.round (g.O.Sink.printed c.args.out.now) c.args.count.now c.loop-lines.count c.take_line.new.count c.loop-lines.events.items c.take_line.new.events.items line keys keys1 keys2 errors errors1 errors2 c.loop-lines.invariant.far (full_line line some) (subst (Takes (g.O.Sink.printed c.args.out.now) keys1 keys2) given c.next.ensures)
     (off_ok c.take_line.result went c.take_line.ensures.ok) tells counted in
     record { far = far; lines = c.take_line.ensures.lines }
 
@@ -146,8 +146,8 @@ returns-clause-types g c =
     let errors1 = g.E.Sink.printed c.loop-lines.errors in
     let typed : TypedRound = record { events = c.loop-lines.events; typing = Broken } in
     let last : c.loop-lines.count.lines ≡ 2 ^ 32 - 1 = omega arith in
-    subst (λ t. TypesRound c.args.round c.args.count.now c.loop-lines.count t (desk keys keys1 errors errors1)) (sym c.ended-2.ensures)
-    (is_counted c.args.round c.args.count.now c.loop-lines.count typed keys keys1 errors errors1 c.loop-lines.invariant.far last refl)
+    subst (λ t. TypesRound c.args.round (g.O.Sink.printed c.args.out.now) c.args.count.now c.loop-lines.count t (desk keys keys1 errors errors1)) (sym c.ended-2.ensures)
+    (is_counted c.args.round (g.O.Sink.printed c.args.out.now) c.args.count.now c.loop-lines.count typed keys keys1 errors errors1 c.loop-lines.invariant.far last refl)
 
 pub returns-clause-each : goal.returns-clause-each
 returns-clause-each g c =

@@ -3,6 +3,7 @@ use Rattle.vax_hw.specs.Machine.{Machine}
 use Rattle.vm_stepping.specs.Ran.{rise}
 use Rattle.vm_shadow.proofs.Covering.{slot_small}
 use Rattle.vm_simulation_laws.specs.Loaded.{RunsGuest, as_run}
+use Rattle.vm_exception.specs.Standing.{standing}
 use Rattle.vm_stepping.specs.Guarded.{CanAllow, IsTried, RunsSome}
 use Rattle.vm_stepping.proofs.Finishing.{is_guarded, runs_loaded, written_loaded}
 use Rattle.vm_stepping.proofs.guarded.run_guarded.Goals as goal
@@ -23,5 +24,5 @@ returns g c =
     let m = g.H.Hardware.machine c.args.machine.now in
     let after = g.H.Hardware.machine c.complete_written-exit.new.machine in
     is_guarded m c.args.s.now c.args.g.now c.complete_written-exit.result (rise c.trail-trail.result c.trail.result) c.world.result after c.complete_written-exit.new.s c.take_back.new.g c.requires.stands c.world.ensures
-    (subst (λ (x : Machine). (opened : List ℕ) → RunsGuest opened x c.args.s.now c.args.g.now → IsTried c.complete_written-exit.result opened x c.args.s.now c.args.g.now after c.complete_written-exit.new.s) c.load_world.ensures c.complete_written-exit.ensures)
+    (subst (λ (x : Machine). (opened : List ℕ) → RunsGuest opened x c.args.s.now c.args.g.now → IsTried c.complete_written-exit.result opened (standing x c.args.s.now c.args.g.now) after c.complete_written-exit.new.s) c.load_world.ensures c.complete_written-exit.ensures)
     (λ i. rise (c.trail-trail.ensures i) (c.trail.ensures i)) (search rules) (c.take_back.ensures ∙ ap (λ w. as_run w c.args.g.now) c.save_world.ensures)

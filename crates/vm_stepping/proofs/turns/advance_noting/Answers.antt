@@ -1,4 +1,4 @@
-use Rattle.vm_stepping.specs.Made.{no_counts}
+use Rattle.vm_stepping.specs.Made.{no_counts, underway}
 use Rattle.vm_stepping.proofs.Advancing.{nothing_yet, then_more}
 use Rattle.vm_stepping.proofs.NotingSteps.{notes_nothing, notes_then}
 use Rattle.vm_stepping.proofs.PayingBegun.{all_paid, pays_nothing, pays_then}
@@ -9,7 +9,7 @@ use Rattle.vm_stepping.proofs.turns.advance_noting.Goals as goal
 
 pub loop-left-init : goal.loop-left-init
 loop-left-init g c = (
-  subst (λ x. Proceeds g.T.Port.may (plain_left c.args.steps) c.of-left.result c.args.port.now c.args.port.now (g.H.Hardware.machine c.args.machine.now) c.args.s.now c.args.g.now no_counts (g.H.Hardware.machine c.args.machine.now) c.args.s.now c.args.g.now x) (sym c.none-counts.ensures)
+  subst (λ x. Proceeds g.T.Port.may (plain_left c.args.steps) c.of-left.result (underway c.args.port.now (g.H.Hardware.machine c.args.machine.now) c.args.s.now c.args.g.now no_counts) (underway c.args.port.now (g.H.Hardware.machine c.args.machine.now) c.args.s.now c.args.g.now x)) (sym c.none-counts.ensures)
       (nothing_yet g.T.Port.may c.args.steps c.of-left.result c.args.port.now (g.H.Hardware.machine c.args.machine.now) c.args.s.now c.args.g.now no_counts c.requires.stands c.of-left.ensures),
   pays_nothing c.args.steps c.of-left.result (g.H.Hardware.machine c.args.machine.now) c.args.s.now c.args.g.now c.of-left.ensures,
   notes_nothing c.args.steps c.of-left.result (g.H.Hardware.machine c.args.machine.now) c.args.g.now c.args.note.now c.of-left.ensures,
