@@ -26,7 +26,7 @@ def stack_pointer(g, stack: int) -> int:
 
 
 def find_pushes(g, sp: int, count: int, mode: int, clear: list) -> list:
-    """The places of so many longwords below a stack pointer, from the highest down."""
+    """The places of `count` longwords below a stack pointer, from the highest down."""
     return [places_to_write(g, sp - 4 * (k + 1) & WORD, 4, mode, clear) for k in range(count)]
 
 

@@ -298,7 +298,7 @@ def content(folder: str, name: str) -> bytes:
 
 
 def fuzz(first_seed: int, count: int, program: str, snapshots: bool, tell=print) -> int:
-    """Compares so many cases; how many differ. A case that does leaves its files."""
+    """Compares `count` cases; how many differ. A case that does leaves its files."""
     different = 0
     kinds = SNAPSHOT_KINDS if snapshots else KINDS
     for seed in range(first_seed, first_seed + count):

@@ -14,7 +14,7 @@ class TooLong(Exception):
 
 
 class DeviceFault(Exception):
-    """A device failed; a line or an output showed so many bytes before."""
+    """A device failed; a line or an output showed `taken` bytes before."""
 
     def __init__(self, taken: int = 0):
         super().__init__()

@@ -149,7 +149,7 @@ class Code:
         return bytes([mode | self.random.randrange(16)]) + value.to_bytes(bytes_of, "little")
 
     def slots(self, count: int, macros: list) -> bytes:
-        """So many slots: in some stands what a macro makes, in others what is drawn, with NOP after it."""
+        """`count` slots: in some stands what a macro makes, in others what is drawn, with NOP after it."""
         data = b""
         for _ in range(count):
             slot = self.random.choice(macros)() if self.random.random() < 0.3 else b""

@@ -8,9 +8,9 @@ import time
 from .noting import NOTED, load_with
 from .turning import changes_of, modules_of_rules
 
-# A changed rule may make a guest's loop endless: so a task is given up after so many seconds, and so many times what it takes.
+# A changed rule may make a guest's loop endless: so a task is given up after SECONDS, and after TIMES what it takes.
 SECONDS, TIMES = 3, 6
-# of those tasks in which a change makes a difference at its place, the shortest are tried, as far as they take so many seconds
+# of those tasks in which a change makes a difference at its place, the shortest are tried, as far as they take MOST_SECONDS
 MOST_SECONDS = 12
 ARROW, NONE = " => ", "none"
 

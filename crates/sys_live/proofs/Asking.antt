@@ -57,7 +57,7 @@ still_in_order known known' echo echo' out typing n lines keys keys' earlier sam
       (before.0, still_known before.0 known known' (echo j) (echo' j) out (slice_index_or asked.outputs k unseen) earlier (same j (omega (arith, ended_within k lines, few))) before.1);
 }
 
--- a place is in the front of so many, or so far behind it
+-- a place is among the first n, or j behind them
 front_or_back : (k n : ℕ) → (k < n) ⊎ ((j : ℕ) × (k ≡ n + j))
 front_or_back k zero = inr (k, omega arith)
 front_or_back zero (suc n) = inl (omega arith)

@@ -7,7 +7,7 @@ use Rattle.sys_script.specs.Typed.{rounds_ended}
 use Rattle.sys_live.specs.declared.typing.Typing.{Typing}
 use Rattle.sys_live.specs.declared.typing.Typing.TheVariants.{GoesOn}
 
--- So many lines were asked for, and each while this was on the output.
+-- `count` lines were asked for, each while this was on the output.
 pub record AsksWhile (count : ℕ) (out : Seen) (before after : Keys) : Type 0 where
   pub outputs : List Seen
   pub noted : after.outputs ≡ before.outputs ++ outputs
@@ -20,7 +20,7 @@ pub record HasShown (cut : Bool) (known : Type 0) (echo : List ℕ) (out out' : 
   pub shown : ShownSince cut out out' echoed
   pub exact : known → echoed ≡ echo
 
--- How many lines are asked for where so many are taken: one more, unless all rounds were ended or 32 bits count no more.
+-- How many lines are asked for where this many are taken: one more, unless all rounds were ended or 32 bits count no more.
 abbrev pub asks_for : Typing → ℕ → ℕ
 asks_for GoesOn taken = taken
 asks_for typing taken = min (taken + 1) (2 ^ 32 - 1)
